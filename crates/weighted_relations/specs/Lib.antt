@@ -1,0 +1,16 @@
+pub mod Relations
+pub mod RelationLaws
+pub mod Rewriting
+pub mod Graphs
+pub mod Machines
+pub mod PathLaws
+pub mod Expressions
+pub mod ExpressionLaws
+pub mod Least
+pub mod Order
+pub mod Searches
+pub mod SearchLaws
+pub mod SearchRuns
+pub mod SearchRunLaws
+pub mod SearchEnds
+pub mod SearchPaths
