@@ -2,9 +2,13 @@
 use Rattle.std.specs.Prelude.{ℕ, zero, suc, ◌<◌, List, [], ◌∷◌, ◌++◌, length, map, get_or}
 use Rattle.std.proofs.Common.{inl, inr, arith}
 use Rattle.weighted_relations.specs.Machines.{Machine, Reads}
-use Rattle.weighted_relations.specs.Relations.{Same, AnyOf, AllOf, Is}
-use Rattle.weighted_relations.specs.RelationLaws.{same_refl, same_joined}
-use Rattle.weighted_relations.specs.Expressions.{Expression, members, Rel, RelAny, RelAll, MeetsKinds, MeetKinds}
+use Rattle.weighted_relations.specs.Relations.{Relation, Same, AnyOf, AllOf, Is}
+use Rattle.weighted_relations.specs.RelationLaws.{same_refl, same_joined, same_inputs, same_outputs}
+use Rattle.weighted_relations.specs.Expressions.{Expression, Side, input_side, output_side, Projected, members, Rel, RelAny, RelAll, MeetsKinds, MeetKinds}
+
+pub same_projected : (side : Side) (R S : Relation) → Same R S → Same (Projected side R) (Projected side S)
+same_projected input_side = same_inputs
+same_projected output_side = same_outputs
 
 -- each transducer has the readings of the expression at its place
 abbrev pub Alike : List Machine → List Expression → Type 0

@@ -143,6 +143,25 @@ abbrev mutual
   sizes no_members = 0
   sizes (member e es) = size e + sizes es
 
+-- the sum of the weights that are written in it
+abbrev mutual
+  pub literals : Expression → ℕ
+  literals (text labels) = 0
+  literals (weighted e v) = literals e + v
+  literals (union es) = all_literals es
+  literals (concat es) = all_literals es
+  literals (star e) = literals e
+  literals (cross a b) = literals a + literals b
+  literals (compose a b) = literals a + literals b
+  literals (minus a b) = literals a + literals b
+  literals (invert e) = literals e
+  literals (project e side) = literals e
+  literals (rewrite tau left right sigma manner) = literals tau + literals left + literals right + literals sigma
+
+  pub all_literals : Expressions → ℕ
+  all_literals no_members = 0
+  all_literals (member e es) = literals e + all_literals es
+
 -- an acceptor without weights
 pub record IsPlainAcceptor (e : Expression) : Type 0 where
   pub acceptor : is_acceptor e ≡ true

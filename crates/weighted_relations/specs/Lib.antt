@@ -6,6 +6,9 @@ pub mod Machines
 pub mod PathLaws
 pub mod Expressions
 pub mod ExpressionLaws
+pub mod MemberLaws
+pub mod LiteralLaws
+pub mod KindLaws
 pub mod Least
 pub mod Order
 pub mod Searches

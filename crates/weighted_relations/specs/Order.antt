@@ -1,8 +1,9 @@
 -- Laws of the order of readings, on which a search rests.
-use Rattle.std.specs.Prelude.{◌≡◌, ◌<◌, ◌⊎◌, ℕ, ◌+◌, List, [], ◌∷◌, ◌++◌, length}
-use Rattle.std.proofs.Common.{inl, inr, arith, refl, length-append, ◌∙◌}
+use Rattle.std.specs.Prelude.{◌≡◌, ◌<◌, ◌⊎◌, ℕ, ◌+◌, List, [], ◌∷◌, ◌++◌, length, Option, Some, None}
+use Rattle.std.proofs.Common.{inl, inr, arith, refl, ap, length-append, ◌∙◌}
 use Rattle.std.proofs.lemmas.Bool.{cases_lt}
-use Rattle.weighted_relations.specs.Least.{BytesBelow, Below}
+use Rattle.weighted_relations.specs.Relations.{Relation}
+use Rattle.weighted_relations.specs.Least.{BytesBelow, Below, Least}
 
 bytes_refl : (x : List ℕ) → BytesBelow x x
 bytes_refl [] = tt
@@ -102,3 +103,33 @@ below_trans u v w x y z (inr h) (inr k) = inr (h.0 ∙ k.0, lengths x y z h.1 k.
   lengths x y z (inl h) (inr k) = inl (omega (arith, h, k.0))
   lengths x y z (inr h) (inl k) = inl (omega (arith, h.0, k))
   lengths x y z (inr h) (inr k) = inr (h.0 ∙ k.0, bytes_trans x y z h.1 k.1)
+
+bytes_antisym : (x y : List ℕ) → BytesBelow x y → BytesBelow y x → x ≡ y
+bytes_antisym [] [] h k = refl
+bytes_antisym [] (b ∷ y) h k = absurd k
+bytes_antisym (a ∷ x) [] h k = absurd h
+bytes_antisym (a ∷ x) (b ∷ y) (inl h) (inl k) = absurd (omega (arith, h, k))
+bytes_antisym (a ∷ x) (b ∷ y) (inl h) (inr k) = absurd (omega (arith, h, k.0))
+bytes_antisym (a ∷ x) (b ∷ y) (inr h) (inl k) = absurd (omega (arith, h.0, k))
+bytes_antisym (a ∷ x) (b ∷ y) (inr h) (inr k) = ap (λ c. c ∷ x) h.0 ∙ ap (λ z. b ∷ z) (bytes_antisym x y h.1 k.1)
+
+-- two that are no greater than one another are the same
+pub below_antisym : (v w : ℕ) (x y : List ℕ) → Below v x w y → Below w y v x → (v ≡ w) × (x ≡ y)
+below_antisym v w x y (inl h) (inl k) = absurd (omega (arith, h, k))
+below_antisym v w x y (inl h) (inr k) = absurd (omega (arith, h, k.0))
+below_antisym v w x y (inr h) (inl k) = absurd (omega (arith, h.0, k))
+below_antisym v w x y (inr h) (inr k) = (h.0, outputs h.1 k.1) where
+  outputs : (length x < length y) ⊎ ((length x ≡ length y) × BytesBelow x y) → (length y < length x) ⊎ ((length y ≡ length x) × BytesBelow y x) → x ≡ y
+  outputs (inl h) (inl k) = absurd (omega (arith, h, k))
+  outputs (inl h) (inr k) = absurd (omega (arith, h, k.0))
+  outputs (inr h) (inl k) = absurd (omega (arith, h.0, k))
+  outputs (inr h) (inr k) = bytes_antisym x y h.1 k.1
+
+-- a relation has one least reading at a set of inputs, or none
+pub least_unique : (R : Relation) (X : List ℕ → Type 0) (a b : Option (ℕ × List ℕ)) → Least R X a → Least R X b → a ≡ b
+least_unique R X None None h k = refl
+least_unique R X None (Some (w, y)) h k = absurd (h k.reads.0 y w k.reads.1 k.reads.2)
+least_unique R X (Some (w, y)) None h k = absurd (k h.reads.0 y w h.reads.1 h.reads.2)
+least_unique R X (Some (w, y)) (Some (v, z)) h k =
+    let same : (w ≡ v) × (y ≡ z) = below_antisym w v y z (h.least k.reads.0 z v k.reads.1 k.reads.2) (k.least h.reads.0 y w h.reads.1 h.reads.2) in
+    ap (λ u. Some (u, y)) same.0 ∙ ap (λ t. Some (v, t)) same.1

@@ -30,9 +30,9 @@ module _ {A : Type 0} (E : Edges A) (s : A) (S : A → Type 0) (queue : List (Op
   was = Contains-permutation (e ∷ rest) queue e (IsPermutation-sym queue (e ∷ rest) moves) (contains_first e rest)
 
   stayed : (m : A) (v : ℕ) (x : List ℕ) → Waits rest m v x → Waits queue m v x
-  stayed m v x h = Contains-permutation (e ∷ rest) queue (record { node = m; weight = v; output = x }) (IsPermutation-sym queue (e ∷ rest) moves) (suc h.0, (let l : suc h.0 < length (e ∷ rest) = omega (arith, h.1) in l), h.2)
+  stayed m v x h = Contains-permutation (e ∷ rest) queue (record { node = m; weight = v; output = x }) (IsPermutation-sym queue (e ∷ rest) moves) (contains_later e rest (record { node = m; weight = v; output = x }) h)
 
-  pub first_way : Reach E s e.node e.weight e.output
+  first_way : Reach E s e.node e.weight e.output
   first_way = going.kept.true_waiting e.node e.weight e.output was
 
   module _ (S' : A → Type 0) (queue' : List (Open A)) (grows : (n : A) → S n → S' n) (stays : (m : A) (v : ℕ) (x : List ℕ) → Waits rest m v x → Waits queue' m v x) (there : S' e.node) where
@@ -114,7 +114,6 @@ module _ {A : Type 0} (E : Edges A) (s : A) (S : A → Type 0) (queue : List (Op
 -- at the beginning
 pub start_going : {A : Type 0} (E : Edges A) (s : A) (S : A → Type 0) → ((n : A) → S n → ⊥) → Going E s S (record { node = s; weight = 0; output = [] } ∷ [])
 start_going {A} E s S empty =
-    let one : List (Open A) = record { node = s; weight = 0; output = [] } ∷ [] in
     record {
       kept = record {
         start = inr (record { weight = 0; output = []; entry = contains_first (record { node = s; weight = 0; output = [] }) []; below = below_refl 0 [] });

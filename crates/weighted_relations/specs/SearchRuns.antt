@@ -23,6 +23,7 @@ pub record Done {A : Type 0} (E : Edges A) (s : A) (S : A → Type 0) (n : A) (w
 abbrev pub Waits : {A : Type 0} → List (Open A) → Entries A
 Waits queue n w y = Contains queue (record { node = n; weight = w; output = y })
 
+-- Settled nodes are at their least ways, and what waits is as a search keeps it.
 pub record Going {A : Type 0} (E : Edges A) (s : A) (S : A → Type 0) (queue : List (Open A)) : Type 0 where
   pub kept : Kept E s (Done E s S) (Waits queue)
   pub ways : (n : A) → S n → (w : ℕ) × (y : List ℕ) × LeastWay E s n w y
