@@ -1,0 +1,17 @@
+pub mod Regions
+pub mod Building
+pub mod Fits
+pub mod Hubs
+pub mod Extends
+pub mod Branches
+pub mod Chained
+pub mod Rounds
+pub mod Checks
+pub mod Relabelled
+pub mod Turns
+pub mod Backwards
+pub mod Tops
+pub mod Strings
+pub mod Searches
+pub mod Uses
+pub mod EmptyInputs

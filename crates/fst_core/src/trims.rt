@@ -1,0 +1,123 @@
+// A transducer with no states that no reading needs.
+
+ghost use Rattle.std.specs.Prelude.{◌≡◌, ◌↔◌, ◌<◌, ◌≤◌, ℕ, length, get_or, slice_get, Some, IfOk, IsTrue};
+ghost use Rattle.std.specs.List.{Contains};
+ghost use Rattle.fst_core.specs.Top.{top_of};
+ghost use Rattle.weighted_relations.specs.declared.Arc.{Arc};
+ghost use Rattle.weighted_relations.specs.Relations.{Same};
+ghost use Rattle.weighted_relations.specs.Machines.{Reads};
+ghost use Rattle.fst_core.specs.Useful.{IsKept, IsTrimmed, rank, RowKept, KeptStates};
+
+use crate::builder::Builder;
+use crate::fst::Fst;
+use crate::reverses::turned_round;
+use crate::search::{Follow, Search, reached};
+use crate::unions::no_reading;
+use std::alloc::{AllocError, Global};
+use weighted_relations::Arc;
+
+/// The same readings, by the states alone that paths from the start to a final state go through.
+///
+/// The start stays, also where there is no path. After Mohri's survey "Weighted automata algorithms" (2009):
+/// one search from the start, and one backwards from the final states.
+pub fn trim(alloc: Global, a: &Fst) -> Result<Fst, AllocError>
+    ensures readings { IfOk result (λ m. Same (Reads m) (Reads a.now)) }
+    ensures top { IfOk result (λ m. top_of m ≤ top_of a.now) }
+    ensures states { IfOk result IsTrimmed }
+{
+    let ahead = reached(alloc, a, Follow::Every)?;
+    let back = turned_round(alloc, a)?;
+    let behind = reached(alloc, &back, Follow::Every)?;
+    let keep = both(alloc, a.len(), &ahead, &behind)?;
+    if keep[a.start()] {
+        let m = kept_states(alloc, a, &keep)?;
+        Ok(m)
+    } else {
+        let m = no_reading(alloc)?;
+        Ok(m)
+    }
+}
+
+/// Marks of the first n states that both searches found.
+fn both(alloc: Global, n: usize, ahead: &Search, behind: &Search) -> Result<Vec<bool>, AllocError>
+    requires ahead { n ≤ ahead.now.size }
+    requires behind { n ≤ behind.now.size }
+    ensures count { IfOk result (λ v. length v.items ≡ n) }
+    ensures marks { IfOk result (λ v. (s : ℕ) → s < n → IsKept v.items s ↔ (Contains ahead.now.states s × Contains behind.now.states s)) }
+{
+    let mut marks = Vec::new(alloc);
+    for s in 0..n {
+        marks.push(both_have(ahead, behind, s))?;
+    }
+    Ok(marks)
+}
+
+/// Whether both searches found a state.
+fn both_have(ahead: &Search, behind: &Search, s: usize) -> bool
+    requires ahead { s < ahead.now.size }
+    requires behind { s < behind.now.size }
+    ensures found { IsTrue result ↔ (Contains ahead.now.states s × Contains behind.now.states s) }
+{
+    ahead.has(s) && behind.has(s)
+}
+
+/// The numbers that the kept states get.
+fn numbers(alloc: Global, keep: &[bool]) -> Result<Vec<usize>, AllocError>
+    ensures count { IfOk result (λ v. length v.items ≡ length keep.now) }
+    ensures ranks { IfOk result (λ v. (s : ℕ) → s < length keep.now → get_or v.items s 0 ≡ rank keep.now s) }
+{
+    let mut ranks = Vec::new(alloc);
+    let mut next = 0;
+    for s in 0..keep.len() {
+        ranks.push(next)?;
+        if keep[s] {
+            next += 1;
+        }
+    }
+    Ok(ranks)
+}
+
+/// The arcs that lead to kept states.
+fn kept_row(
+    alloc: Global,
+    row: &[Arc],
+    keep: &[bool],
+    ranks: &[usize],
+) -> Result<Vec<Arc>, AllocError>
+    requires count { length ranks.now ≡ length keep.now }
+    requires ranks { (s : ℕ) → s < length keep.now → get_or ranks.now s 0 ≡ rank keep.now s }
+    requires within { (i : ℕ) (a : Arc) → slice_get row.now i ≡ Some a → a.next < length keep.now }
+    ensures { IfOk result (λ v. RowKept keep.now (length row.now) row.now v.items) }
+{
+    let mut arcs = Vec::new(alloc);
+    for a in row {
+        if keep[a.next] {
+            arcs.push(Arc {
+                input: a.input,
+                output: a.output,
+                weight: a.weight,
+                next: ranks[a.next],
+            })?;
+        }
+    }
+    Ok(arcs)
+}
+
+/// The kept states alone.
+fn kept_states(alloc: Global, a: &Fst, keep: &[bool]) -> Result<Fst, AllocError>
+    requires count { length keep.now ≡ length a.now.arcs }
+    requires start { IsKept keep.now a.now.start }
+    ensures states { IfOk result (KeptStates a.now keep.now) }
+    ensures top { IfOk result (λ m. top_of m ≤ top_of a.now) }
+{
+    let start = a.start();
+    let ranks = numbers(alloc, keep)?;
+    let mut built = Builder::new(alloc);
+    for s in 0..a.len() {
+        if keep[s] {
+            let row = kept_row(alloc, a.arcs_of(s), keep, &ranks)?;
+            built.push(row, a.final_of(s))?;
+        }
+    }
+    Ok(built.finish(ranks[start]))
+}
