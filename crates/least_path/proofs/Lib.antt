@@ -1,0 +1,5 @@
+pub mod Compare
+pub mod Scans
+pub mod Growing
+pub mod Running
+pub mod Marks
