@@ -1,0 +1,197 @@
+-- From the stop of a run to its status and to what is told of it.
+use Rattle.std.proofs.Common.{inl, inr, ◌≡◌, ◌⊎◌, ◌==◌, ℕ, ◌+◌, ◌≤◌, ◌^◌, List, [], None, Some, Ok, Err, Bool, true, false, IfSome, IfOk, IfErr, OnOk, IsSomeAnd, length, refl, sym, ap, ◌∙◌, subst, arith, if◌then◌else◌, String, Global}
+use Rattle.std.specs.Io.KnownBytes.{IsAtEnd}
+use Rattle.std.specs.Prelude.{Result, Option}
+use Rattle.norm_base.specs.Bytes.{AppendsPrefix}
+use Rattle.norm_base.specs.Counts.{capped}
+use Rattle.norm_base.specs.Files.{Files}
+use Rattle.norm_base.proofs.Front.{prefix_none}
+use Rattle.weighted_relations.specs.Expressions.{Expression}
+use Rattle.speak_core.specs.Accepted.{Accepted, NotRead}
+use Rattle.speak_core.specs.Commands.{setup_name}
+use Rattle.speak_core.specs.Inputs.{GaveMore}
+use Rattle.speak_core.specs.Owed.{Owed, SpeaksAll}
+use Rattle.speak_core.specs.Stops.{status_of, text_of, last_text, SomeRose, NoneRose, AllCounts, IsAccepted, IsEnd}
+use Rattle.speak_core.specs.Told.{TellsLast, TellsTwice, TellsShort, TellsStop, MayTell, no_text, wrong_words, not_read, outside, too_long}
+use Rattle.speak_core.specs.declared.stop.Stop.{Stop}
+use Rattle.speak_core.specs.declared.stop.Stop.TheVariants.{Words, NotRead as NotReadStop, Outside, Memory, TooLong}
+
+stop_of : ℕ → Stop
+stop_of n = if n == 2 then Words else (if n == 3 then NotReadStop else (if n == 4 then Outside else (if n == 6 then TooLong else Memory)))
+
+stop_of_status : (s : Stop) → stop_of (status_of s) ≡ s
+unfolding stop_of
+stop_of_status Words = refl
+stop_of_status NotReadStop = refl
+stop_of_status Outside = refl
+stop_of_status Memory = refl
+stop_of_status TooLong = refl
+
+status_least : (s : Stop) → 2 ≤ status_of s
+status_least Words = omega arith
+status_least NotReadStop = omega arith
+status_least Outside = omega arith
+status_least Memory = omega arith
+status_least TooLong = omega arith
+
+status_most : (s : Stop) → status_of s ≤ 6
+status_most Words = omega arith
+status_most NotReadStop = omega arith
+status_most Outside = omega arith
+status_most Memory = omega arith
+status_most TooLong = omega arith
+
+not_five : (t : Stop) (n : ℕ) → n ≡ status_of t → (status_of t == 5) ≡ false → n ≡ 5 → ⊥
+not_five t n is other five =
+    let h : status_of t ≡ 5 = sym is ∙ five in
+    let k : true ≡ false = subst (λ m. (m == 5) ≡ false) h other in
+    cc
+
+-- a status other than that of want of memory tells the stop
+pub stopped_at : (r : Result Bool Stop) (t : Stop) (n : ℕ) → IsEnd n r → n ≡ status_of t → (status_of t == 5) ≡ false → r ≡ Err t
+stopped_at (Ok true) t n end is other = let l = status_least t in absurd (omega (arith, end, is, l))
+stopped_at (Ok false) t n end is other = let l = status_least t in absurd (omega (arith, end, is, l))
+stopped_at (Err s) t n (inl e) is other = ap Err (sym (stop_of_status s) ∙ ap stop_of (sym e ∙ is) ∙ stop_of_status t)
+stopped_at (Err s) t n (inr e) is other = absurd (not_five t n is other e)
+
+pub end_at : (r : Result Bool Stop) (t : Stop) (n : ℕ) → IsEnd n r → r ≡ Err t → (n ≡ status_of t) ⊎ (n ≡ 5)
+end_at r t n end is = subst (λ v. IsEnd n v) is end
+
+pub at_most_six : (r : Result Bool Stop) (n : ℕ) → IsEnd n r → n ≤ 6
+at_most_six (Ok true) n end = omega (arith, end)
+at_most_six (Ok false) n end = omega (arith, end)
+at_most_six (Err s) n (inl e) = let l = status_most s in omega (arith, e, l)
+at_most_six (Err s) n (inr e) = omega (arith, e)
+
+-- a run that isn't stopped
+pub record Finished (r : Result Bool Stop) : Type 0 where
+  pub is_read : Bool
+  pub is : r ≡ Ok is_read
+
+pub finished : (r : Result Bool Stop) (n : ℕ) → IsEnd n r → n ≤ 1 → Finished r
+finished (Ok b) n end l = record { is_read = b; is = refl }
+finished (Err s) n (inl e) l = let m = status_least s in absurd (omega (arith, e, l, m))
+finished (Err s) n (inr e) l = absurd (omega (arith, e, l))
+
+pub all_read_at : (r : Result Bool Stop) (n : ℕ) → IsEnd n r → n ≡ 0 → r ≡ Ok true
+all_read_at (Ok true) n end z = refl
+all_read_at (Ok false) n end z = absurd (omega (arith, end, z))
+all_read_at (Err s) n (inl e) z = let m = status_least s in absurd (omega (arith, e, z, m))
+all_read_at (Err s) n (inr e) z = absurd (omega (arith, e, z))
+
+pub some_refused_at : (r : Result Bool Stop) (n : ℕ) → IsEnd n r → n ≡ 1 → r ≡ Ok false
+some_refused_at (Ok true) n end z = absurd (omega (arith, end, z))
+some_refused_at (Ok false) n end z = refl
+some_refused_at (Err s) n (inl e) z = let m = status_least s in absurd (omega (arith, e, z, m))
+some_refused_at (Err s) n (inr e) z = absurd (omega (arith, e, z))
+
+-- a refusal of the words, or of what they name
+pub is_refusal : (r : Result Bool Stop) (n : ℕ) → IsEnd n r → (n ≡ 2) ⊎ (n ≡ 3) → (r ≡ Err Words) ⊎ (r ≡ Err NotReadStop)
+is_refusal r n end (inl e) = inl (stopped_at r Words n end e refl)
+is_refusal r n end (inr e) = inr (stopped_at r NotReadStop n end e refl)
+
+pub refused_end : (words : List (String Global)) (known : Option Files) (r : Result Bool Stop) (n : ℕ) → IsEnd n r → (r ≡ Err Words → setup_name words ≡ None) → (IsAccepted r → IfSome known (λ files. NotRead words files → ⊥))
+    → IfSome known (λ files. NotRead words files → (n ≡ 3) ⊎ ((n ≡ 4) ⊎ (n ≡ 5)))
+refused_end words None r n end wrong accepted = tt
+refused_end words (Some files) (Ok b) n end wrong accepted = λ h. absurd (accepted tt h)
+refused_end words (Some files) (Err Words) n end wrong accepted = λ h. absurd (h.is_command (wrong refl))
+refused_end words (Some files) (Err NotReadStop) n end wrong accepted = λ h. elim end [ inl e ↦ inl e | inr e ↦ inr (inr e) ]
+refused_end words (Some files) (Err Outside) n end wrong accepted = λ h. elim end [ inl e ↦ inr (inl e) | inr e ↦ inr (inr e) ]
+refused_end words (Some files) (Err Memory) n end wrong accepted = λ h. elim end [ inl e ↦ inr (inr e) | inr e ↦ inr (inr e) ]
+refused_end words (Some files) (Err TooLong) n end wrong accepted = λ h. absurd (accepted tt h)
+
+pub long_end : (left now : Option (List ℕ)) (r : Result Bool Stop) (n : ℕ) → IsEnd n r → IfSome left (λ before. IfSome now (λ after. GaveMore before after → r ≡ Err TooLong))
+    → IfSome left (λ before. IfSome now (λ after. GaveMore before after → (n ≡ 6) ⊎ (n ≡ 5)))
+long_end None now r n end long = tt
+long_end (Some before) None r n end long = tt
+long_end (Some before) (Some after) r n end long = λ more. end_at r TooLong n end (long more)
+
+-- the count of the errors stood or rose after
+rose_later : (h h' s s' o o' e e' e'' : ℕ) → SomeRose h h' s s' o o' e e' → e' ≤ e'' → SomeRose h h' s s' o o' e e''
+rose_later h h' s s' o o' e e' e'' (inl r) l = inl r
+rose_later h h' s s' o o' e e' e'' (inr (inl r)) l = inr (inl r)
+rose_later h h' s s' o o' e e' e'' (inr (inr (inl r))) l = inr (inr (inl r))
+rose_later h h' s s' o o' e e' e'' (inr (inr (inr r))) l = inr (inr (inr (omega (arith, r, l))))
+
+pub outside_rose : (h h' s s' o o' e e' e'' : ℕ) (r : Result Bool Stop) → AllCounts h h' s s' o o' e e' r → e' ≤ e'' → r ≡ Err Outside → SomeRose h h' s s' o o' e e''
+outside_rose h h' s s' o o' e e' e'' r counts l is = rose_later h h' s s' o o' e e' e'' (subst (λ v. AllCounts h h' s s' o o' e e' v) is counts) l
+
+pub none_rose : (h h' s s' o o' e e' e'' : ℕ) (r : Result Bool Stop) → AllCounts h h' s s' o o' e e' r → Finished r → IfOk r (λ b. e'' ≡ e') → NoneRose h h' s s' o o' e e''
+none_rose h h' s s' o o' e e' e'' r counts f kept =
+    let c : NoneRose h h' s s' o o' e e' = subst (λ v. AllCounts h h' s s' o o' e e' v) f.is counts in
+    let k : e'' ≡ e' = subst (λ v. IfOk v (λ b. e'' ≡ e')) f.is kept in
+    (c.0, c.1, c.2, k ∙ c.3)
+
+pub at_end : (now : Option (List ℕ)) (r : Result Bool Stop) → OnOk r (IsAtEnd now) → Finished r → IsAtEnd now
+at_end now r end f = subst (λ v. OnOk v (IsAtEnd now)) f.is end
+
+pub speaks_at : (words : List (String Global)) (known : Option Files) (left out out' err err' err'' : Option (List ℕ)) (r : Result Bool Stop) (b : Bool) → r ≡ Ok b
+    → IfOk r (λ is_read. IfSome known (λ files. IfSome left (λ input. SpeaksAll words files input out out' err err' is_read))) → IfOk r (λ is_read. err'' ≡ err')
+    → IfSome known (λ files. IfSome left (λ input. SpeaksAll words files input out out' err err'' b))
+speaks_at words known left out out' err err' err'' r b is done kept =
+    let d = subst (λ v. IfOk v (λ is_read. IfSome known (λ files. IfSome left (λ input. SpeaksAll words files input out out' err err' is_read)))) is done in
+    let k : err'' ≡ err' = subst (λ v. IfOk v (λ is_read. err'' ≡ err')) is kept in
+    subst (λ v. IfSome known (λ files. IfSome left (λ input. SpeaksAll words files input out out' err v b))) (sym k) d
+
+-- what is known of a run that stopped
+pub record Known (words : List (String Global)) (known : Option Files) (left now : Option (List ℕ)) (Rises : Type 0) (r : Result Bool Stop) : Type 0 where
+  pub wrong : r ≡ Err Words → setup_name words ≡ None
+  pub unread : r ≡ Err NotReadStop → IfSome known (λ files. NotRead words files)
+  pub rises : r ≡ Err Outside → Rises
+  pub long : r ≡ Err TooLong → IfSome left (λ before. IsSomeAnd now (λ after. GaveMore before after))
+
+not_long : (input : List ℕ) (now : Option (List ℕ)) → length input ≤ 2 ^ 28 → IsSomeAnd now (λ after. GaveMore input after) → ⊥
+not_long input None l more = more
+not_long input (Some after) l more = omega (arith, l, more)
+
+named : (words : List (String Global)) (files : Files) (e : Expression) → Accepted words files e → setup_name words ≡ None → ⊥
+named words files e a none = let no_name : Some a.name ≡ None = sym a.is_command ∙ none in cc
+
+pub complete_end : (words : List (String Global)) (known : Option Files) (left now : Option (List ℕ)) (Rises : Type 0) (r : Result Bool Stop) (n : ℕ) → IsEnd n r → Known words known left now Rises r
+    → IfSome known (λ files. IfSome left (λ input. (e : Expression) → Accepted words files e → length input ≤ 2 ^ 28 → (Rises → ⊥) → (n ≤ 1) ⊎ (n ≡ 5)))
+complete_end words None left now Rises r n end k = tt
+complete_end words (Some files) None now Rises r n end k = tt
+complete_end words (Some files) (Some input) now Rises (Ok true) n end k = λ e a l calm. inl (omega (arith, end))
+complete_end words (Some files) (Some input) now Rises (Ok false) n end k = λ e a l calm. inl (omega (arith, end))
+complete_end words (Some files) (Some input) now Rises (Err Words) n end k = λ e a l calm. absurd (named words files e a (k.wrong refl))
+complete_end words (Some files) (Some input) now Rises (Err NotReadStop) n end k = λ e a l calm. absurd ((k.unread refl).refused e a)
+complete_end words (Some files) (Some input) now Rises (Err Outside) n end k = λ e a l calm. absurd (calm (k.rises refl))
+complete_end words (Some files) (Some input) now Rises (Err Memory) n end k = λ e a l calm. elim end [ inl e ↦ inr e | inr e ↦ inr e ]
+complete_end words (Some files) (Some input) now Rises (Err TooLong) n end k = λ e a l calm. absurd (not_long input now l (k.long refl))
+
+tells_last : (n e e' e'' : ℕ) (old mid new : Option (List ℕ)) (faults : List ℕ) (t : Stop) → n ≡ status_of t → (status_of t == 5) ≡ false → TellsStop n e' e'' mid new t → e ≤ e' → AppendsPrefix old mid faults → TellsLast e e'' old new faults (text_of t)
+tells_last n e e' e'' old mid new faults t is other told later lines = record {
+  whole = elim told.whole [ inl five ↦ absurd (not_five t n is other five) | inr w ↦ elim w [ inl rose ↦ inl (let r : capped (e' + 1) ≤ e'' = rose in omega (arith, r, later)) | inr last ↦ inr (record { between = mid; lines = lines; last = last }) ] ];
+  front = elim told.front [ inl five ↦ absurd (not_five t n is other five) | inr last ↦ record { between = mid; lines = lines; last = last } ];
+}
+
+-- after a refusal nothing else stands in the errors
+pub told_refusal : (r : Result Bool Stop) (t : Stop) (n e e' e'' : ℕ) (old mid new : Option (List ℕ)) → IsEnd n r → IfErr r (λ s. TellsStop n e' e'' mid new s) → n ≡ status_of t → (status_of t == 5) ≡ false → e ≤ e' → mid ≡ old → TellsLast e e'' old new [] (text_of t)
+told_refusal r t n e e' e'' old mid new end told is other later same =
+    tells_last n e e' e'' old mid new [] t is other (subst (λ v. IfErr v (λ s. TellsStop n e' e'' mid new s)) (stopped_at r t n end is other) told) later (subst (λ m. AppendsPrefix old m []) (sym same) (prefix_none old []))
+
+pub told_stop : (words : List (String Global)) (known : Option Files) (left : Option (List ℕ)) (r : Result Bool Stop) (t : Stop) (n e e' e'' : ℕ) (old mid new : Option (List ℕ)) → IsEnd n r → IfErr r (λ s. TellsStop n e' e'' mid new s) → n ≡ status_of t → (status_of t == 5) ≡ false → e ≤ e'
+    → IfSome known (λ files. IfSome left (λ input. (output faults : List ℕ) → Owed words files input output faults → AppendsPrefix old mid faults))
+    → IfSome known (λ files. IfSome left (λ input. (output faults : List ℕ) → Owed words files input output faults → TellsLast e e'' old new faults (text_of t)))
+told_stop words None left r t n e e' e'' old mid new end told is other later lines = tt
+told_stop words (Some files) None r t n e e' e'' old mid new end told is other later lines = tt
+told_stop words (Some files) (Some input) r t n e e' e'' old mid new end told is other later lines = λ output faults owed.
+    tells_last n e e' e'' old mid new faults t is other (subst (λ v. IfErr v (λ s. TellsStop n e' e'' mid new s)) (stopped_at r t n end is other) told) later (lines output faults owed)
+
+may_tell : (words : List (String Global)) (files : Files) (input : List ℕ) (now : Option (List ℕ)) (Rises : Type 0) (s : Stop) → Known words (Some files) (Some input) now Rises (Err s) → MayTell words files Rises (IsSomeAnd now (λ after. GaveMore input after)) (last_text s)
+may_tell words files input now Rises Words k = wrong_words (k.wrong refl)
+may_tell words files input now Rises NotReadStop k = not_read (k.unread refl)
+may_tell words files input now Rises Outside k = outside (k.rises refl)
+may_tell words files input now Rises Memory k = no_text
+may_tell words files input now Rises TooLong k = too_long (k.long refl)
+
+pub told_short : (words : List (String Global)) (known : Option Files) (left now : Option (List ℕ)) (Rises : Type 0) (r : Result Bool Stop) (n : ℕ) (old mid new : Option (List ℕ)) → IsEnd n r → n ≡ 5 → Known words known left now Rises r
+    → IfErr r (λ s. TellsTwice mid new (last_text s))
+    → IfSome known (λ files. IfSome left (λ input. (output faults : List ℕ) → Owed words files input output faults → AppendsPrefix old mid faults))
+    → IfSome known (λ files. IfSome left (λ input. (output faults : List ℕ) → Owed words files input output faults → TellsShort words files Rises (IsSomeAnd now (λ after. GaveMore input after)) old new faults))
+told_short words None left now Rises r n old mid new end five k twice lines = tt
+told_short words (Some files) None now Rises r n old mid new end five k twice lines = tt
+told_short words (Some files) (Some input) now Rises (Ok true) n old mid new end five k twice lines = absurd (omega (arith, end, five))
+told_short words (Some files) (Some input) now Rises (Ok false) n old mid new end five k twice lines = absurd (omega (arith, end, five))
+told_short words (Some files) (Some input) now Rises (Err s) n old mid new end five k twice lines = λ output faults owed.
+    record { between = mid; text = last_text s; cause = may_tell words files input now Rises s k; lines = lines output faults owed; last = twice }

@@ -1,0 +1,12 @@
+pub mod Lines
+pub mod Setups
+pub mod Commands
+pub mod Thin
+pub mod Accepted
+pub mod Answers
+pub mod Owed
+pub mod Stops
+pub mod Inputs
+pub mod Parts
+pub mod Loaded
+pub mod Told

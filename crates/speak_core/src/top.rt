@@ -1,0 +1,136 @@
+// The top call.
+
+ghost use Rattle.std.specs.Prelude.{◌≡◌, ◌⊎◌, ◌≤◌, ◌^◌, IfErr, IfOk, IfSome, IsSomeAnd, length, List, [], ℕ, None, true, false};
+ghost use Rattle.std.specs.Io.KnownBytes.{IsAtEnd};
+ghost use Rattle.norm_base.specs.Bytes.{AppendsPrefix};
+ghost use Rattle.weighted_relations.specs.Expressions.{Expression};
+ghost use Rattle.speak_core.specs.Accepted.{Accepted, NotRead};
+ghost use Rattle.speak_core.specs.Commands.{setup_name};
+ghost use Rattle.speak_core.specs.Inputs.{GaveMore};
+ghost use Rattle.speak_core.specs.Owed.{Owed, SpeaksAll};
+ghost use Rattle.speak_core.specs.Stops.{IsEnd, IsStatus, NoneRose, SomeRose, text_of, last_text};
+ghost use Rattle.speak_core.specs.declared.stop.Stop.TheVariants.{Words, NotRead as NotReadStop, Outside, Memory, TooLong};
+ghost use Rattle.speak_core.specs.Told.{TellsLast, TellsShort, TellsStop, TellsTwice};
+
+use crate::outside::put;
+use crate::running::run;
+use crate::stop::Stop;
+use crate::watch::Watch;
+use norm_base::{Shelf, Sink, Source};
+use std::alloc::Global;
+use std::thread::Threads;
+
+/// Speaks the lines of the source by the rule that the words and the files of the shelf name, and answers the status.
+///
+/// The words after the program's name are `--setup`, the name of a setup, `--mode` and `classify`. The whole input is read, of
+/// at most 268,435,456 bytes. Then `out` gets for each line the output of its least reading and a LF, or the LF alone where it
+/// has no reading, and `err` gets the number of each such line.
+///
+/// Status 0: each line was read. 1: some line has no reading. 2: the words are wrong. 3: the setup, its grammar or its rule
+/// isn't read. 4: a device failed. 5: memory is wanting. 6: the input is too long. From 2 on, the cause is told to `err` last.
+///
+/// The watch isn't told of any line yet.
+pub fn speak<R: Threads + Sync, H: Shelf, S: Source, O: Sink, E: Sink, W: Watch + Sync>(
+    _rt: &R,
+    alloc: Global,
+    words: &[String],
+    shelf: &mut H,
+    source: &mut S,
+    out: &mut O,
+    err: &mut E,
+    _watch: &W,
+) -> u8
+    ensures range { result ≤ 6 }
+
+    // The cause of each status.
+    ensures wrong_words { result ≡ 2 → setup_name words.now ≡ None }
+    ensures only_wrong_words { setup_name words.now ≡ None → (result ≡ 2) ⊎ (result ≡ 5) }
+    ensures not_read { result ≡ 3 → IfSome (H.files shelf.old) (λ files. NotRead words.now files) }
+    ensures only_not_read { IfSome (H.files shelf.old) (λ files. NotRead words.now files → (result ≡ 3) ⊎ ((result ≡ 4) ⊎ (result ≡ 5))) }
+    ensures outside { result ≡ 4 → SomeRose (H.faults shelf.old) (H.faults shelf.new) (S.faults source.old) (S.faults source.new)
+        (O.faults out.old) (O.faults out.new) (E.faults err.old) (E.faults err.new) }
+    ensures too_long { result ≡ 6 → IfSome (S.left source.old) (λ before. IsSomeAnd (S.left source.new) (λ now. GaveMore before now)) }
+    ensures only_too_long { IfSome (S.left source.old) (λ before. IfSome (S.left source.new) (λ now. GaveMore before now → (result ≡ 6) ⊎ (result ≡ 5))) }
+    ensures quiet { result ≤ 1 → NoneRose (H.faults shelf.old) (H.faults shelf.new) (S.faults source.old) (S.faults source.new)
+        (O.faults out.old) (O.faults out.new) (E.faults err.old) (E.faults err.new) }
+
+    // What is written for the lines.
+    ensures read { result ≡ 0 → IfSome (H.files shelf.old) (λ files. IfSome (S.left source.old) (λ input.
+        SpeaksAll words.now files input (O.held out.old) (O.held out.new) (E.held err.old) (E.held err.new) true)) }
+    ensures some_refused { result ≡ 1 → IfSome (H.files shelf.old) (λ files. IfSome (S.left source.old) (λ input.
+        SpeaksAll words.now files input (O.held out.old) (O.held out.new) (E.held err.old) (E.held err.new) false)) }
+    ensures end { result ≤ 1 → IsAtEnd (S.left source.new) }
+    ensures front { IfSome (H.files shelf.old) (λ files. IfSome (S.left source.old) (λ input. (output faults : List ℕ)
+        → Owed words.now files input output faults → AppendsPrefix (O.held out.old) (O.held out.new) output)) }
+    ensures silent { (result ≡ 2) ⊎ (result ≡ 3) → O.held out.new ≡ O.held out.old }
+
+    // With all accepted, no count that rose and an input within its limit, the lines are spoken or memory is wanting.
+    ensures complete { IfSome (H.files shelf.old) (λ files. IfSome (S.left source.old) (λ input. (e : Expression)
+        → Accepted words.now files e → length input ≤ 2 ^ 28
+        → (SomeRose (H.faults shelf.old) (H.faults shelf.new) (S.faults source.old) (S.faults source.new)
+        (O.faults out.old) (O.faults out.new) (E.faults err.old) (E.faults err.new) → ⊥)
+        → (result ≤ 1) ⊎ (result ≡ 5))) }
+
+    // What is told last.
+    ensures told_words { result ≡ 2 → TellsLast (E.faults err.old) (E.faults err.new) (E.held err.old) (E.held err.new) [] (text_of Words) }
+    ensures told_not_read { result ≡ 3 → TellsLast (E.faults err.old) (E.faults err.new) (E.held err.old) (E.held err.new) [] (text_of NotReadStop) }
+    ensures told_outside { result ≡ 4 → IfSome (H.files shelf.old) (λ files. IfSome (S.left source.old) (λ input. (output faults : List ℕ)
+        → Owed words.now files input output faults
+        → TellsLast (E.faults err.old) (E.faults err.new) (E.held err.old) (E.held err.new) faults (text_of Outside))) }
+    ensures told_too_long { result ≡ 6 → IfSome (H.files shelf.old) (λ files. IfSome (S.left source.old) (λ input. (output faults : List ℕ)
+        → Owed words.now files input output faults
+        → TellsLast (E.faults err.old) (E.faults err.new) (E.held err.old) (E.held err.new) faults (text_of TooLong))) }
+    ensures told_memory { result ≡ 5 → IfSome (H.files shelf.old) (λ files. IfSome (S.left source.old) (λ input. (output faults : List ℕ)
+        → Owed words.now files input output faults
+        → TellsShort words.now files
+        (SomeRose (H.faults shelf.old) (H.faults shelf.new) (S.faults source.old) (S.faults source.new)
+        (O.faults out.old) (O.faults out.new) (E.faults err.old) (E.faults err.new))
+        (IsSomeAnd (S.left source.new) (λ now. GaveMore input now)) (E.held err.old) (E.held err.new) faults)) }
+
+    ensures unread { (result ≡ 2) ⊎ (result ≡ 3) → S.left source.new ≡ S.left source.old }
+    ensures files { H.files shelf.new ≡ H.files shelf.old }
+{
+    finish(run(alloc, words, shelf, source, out, err), err)
+}
+
+/// Tells why a run ended, where it didn't speak all lines, and answers its status.
+fn finish<E: Sink>(ended: Result<bool, Stop>, err: &mut E) -> u8
+    ensures status { IsEnd result ended }
+    ensures kept { IfOk ended (λ is_read. E.held err.new ≡ E.held err.old) }
+    ensures kept_count { IfOk ended (λ is_read. E.faults err.new ≡ E.faults err.old) }
+    ensures told { IfErr ended (λ stop. TellsStop result (E.faults err.old) (E.faults err.new) (E.held err.old) (E.held err.new) stop) }
+    ensures short { result ≡ 5 → IfErr ended (λ stop. TellsTwice (E.held err.old) (E.held err.new) (last_text stop)) }
+    ensures later { E.faults err.old ≤ E.faults err.new }
+{
+    match ended {
+        Ok(true) => 0,
+        Ok(false) => 1,
+        Err(stop) => tell(err, stop),
+    }
+}
+
+/// Tells why a run stopped, and answers its status; that of want of memory where memory is wanting for the text.
+fn tell<E: Sink>(err: &mut E, stop: Stop) -> u8
+    ensures status { IsStatus result stop }
+    ensures told { TellsStop result (E.faults err.old) (E.faults err.new) (E.held err.old) (E.held err.new) stop }
+    ensures short { result ≡ 5 → TellsTwice (E.held err.old) (E.held err.new) (last_text stop) }
+    ensures later { E.faults err.old ≤ E.faults err.new }
+{
+    if stop == Stop::Memory {
+        return tell_memory(err);
+    }
+    match put(err, stop.text()) {
+        Err(Stop::Memory) => tell_memory(err),
+        _ => stop.status(),
+    }
+}
+
+/// Tells that memory is wanting, where it can, and answers that status.
+fn tell_memory<E: Sink>(err: &mut E) -> u8
+    ensures status { result ≡ 5 }
+    ensures front { AppendsPrefix (E.held err.old) (E.held err.new) (text_of Memory) }
+    ensures later { E.faults err.old ≤ E.faults err.new }
+{
+    let _told = put(err, Stop::Memory.text());
+    Stop::Memory.status()
+}
