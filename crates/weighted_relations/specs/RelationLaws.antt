@@ -1,8 +1,8 @@
 -- Laws of relations, which the crates above cite.
 use Rattle.std.specs.Prelude.{◌≡◌, ◌↔◌, ◌⊎◌, ℕ, zero, suc, ◌+◌, List, [], ◌∷◌, ◌++◌, take, drop, length, get_or, slice_get, Some, ◌<◌, reverse}
 use Rattle.std.proofs.lemmas.List.{take_more, drop_more}
-use Rattle.std.proofs.Common.{inl, inr, refl}
-use Rattle.weighted_relations.specs.Relations.{Relation, Same, Is, Weighted, Joined, Either, AnyOf, AllOf, Copies, Starred, Crossed, Composed, Without, Accepts, Inverted, Inputs, Outputs, Reversed, IsAcceptor, IsUnweighted, IsUnmarked}
+use Rattle.std.proofs.Common.{inl, inr, refl, subst, sym}
+use Rattle.weighted_relations.specs.Relations.{Relation, Same, Is, Weighted, Joined, Either, AnyOf, AllOf, Copies, Starred, Crossed, Composed, Without, Accepts, IsInput, Inverted, Inputs, Outputs, Reversed, IsAcceptor, IsUnweighted, IsUnmarked}
 
 pub same_refl : (R : Relation) → Same R R
 same_refl R x y w = (λ h. h, λ h. h)
@@ -114,3 +114,7 @@ same_any R S (a ∷ rest) f x y w = (
   elim [ inl h ↦ inl ((f 0 a refl x y w).0 h) | inr h ↦ inr ((same_any R S rest (λ k b e. f (suc k) b e) x y w).0 h) ],
   elim [ inl h ↦ inl ((f 0 a refl x y w).1 h) | inr h ↦ inr ((same_any R S rest (λ k b e. f (suc k) b e) x y w).1 h) ],
 )
+
+-- what an acceptor reads is what it accepts
+pub input_accepted : (R : Relation) → IsAcceptor R → (x : List ℕ) → IsInput R x ↔ Accepts R x
+input_accepted R f x = (λ h. (h.1, subst (λ y. R x y h.1) (sym (f x h.0 h.1 h.2)) h.2), λ h. (x, h.0, h.1))
