@@ -10,8 +10,8 @@ use Rattle.weighted_relations.specs.Relations.{Same}
 use Rattle.weighted_relations.specs.Expressions.{Rel, MeetsKinds, MeetKinds, literals, all_literals, members}
 use Rattle.weighted_relations.specs.ExpressionLaws.{Alike, alike_push, kinds_at}
 use Rattle.weighted_relations.specs.MemberLaws.{literals_sum}
-use Rattle.thrax_link.specs.declared.expressions.Expr.{Expr, size-Expr}
-use Rattle.thrax_link.specs.Views.{expression_of}
+use Rattle.core_expressions.specs.declared.expressions.Expr.{Expr, size-Expr}
+use Rattle.core_expressions.specs.Views.{expression_of}
 use Rattle.grammar_build.specs.Kinds.{IsBuilt, AreBuilt}
 
 pub alike_more : (ms : List Machine) (m : Machine) (parts : List Expr) (i : ℕ) (x : Expr) → i < length parts → x ≡ get_or parts i x → Same (Reads m) (Rel (expression_of x)) → Alike ms (map expression_of (take i parts)) → Alike (ms ++ m ∷ []) (map expression_of (take (i + 1) parts))

@@ -7,12 +7,12 @@ use Rattle.weighted_relations.specs.RelationLaws.{same_refl, same_trans, same_we
 use Rattle.weighted_relations.specs.Expressions.{Expression, Projected, text, weighted, union, concat, star, cross, invert, project, members, Rel, MeetsKinds}
 use Rattle.weighted_relations.specs.ExpressionLaws.{Alike, alike_any, alike_all, same_projected}
 use Rattle.weighted_relations.specs.KindLaws.{acceptor_kind}
-use Rattle.thrax_link.specs.declared.expressions.Side.{Side}
-use Rattle.thrax_link.specs.declared.expressions.Side.TheVariants as side
-use Rattle.thrax_link.specs.declared.expressions.Expr.{Expr}
-use Rattle.thrax_link.specs.declared.expressions.Expr.TheVariants as variants
-use Rattle.thrax_link.specs.Views.{expression_of, side_of}
-use Rattle.thrax_link.specs.ViewLaws.{of_text, of_weighted, of_union, of_concat, of_star, of_cross, of_invert, of_project}
+use Rattle.core_expressions.specs.declared.expressions.Side.{Side}
+use Rattle.core_expressions.specs.declared.expressions.Side.TheVariants as side
+use Rattle.core_expressions.specs.declared.expressions.Expr.{Expr}
+use Rattle.core_expressions.specs.declared.expressions.Expr.TheVariants as variants
+use Rattle.core_expressions.specs.Views.{expression_of, side_of}
+use Rattle.core_expressions.specs.ViewLaws.{of_text, of_weighted, of_union, of_concat, of_star, of_cross, of_invert, of_project}
 use Rattle.grammar_build.specs.Sides.{side2_of}
 
 reads_as : (e : Expr) (s : Expression) (m : Machine) (R : Relation) → expression_of e ≡ s → Same R (Rel s) → Same (Reads m) R → Same (Reads m) (Rel (expression_of e))

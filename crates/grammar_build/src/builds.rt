@@ -6,14 +6,14 @@ ghost use Rattle.weighted_relations.specs.Relations.{Same};
 ghost use Rattle.weighted_relations.specs.Machines.{Reads};
 ghost use Rattle.weighted_relations.specs.Expressions.{Rel, MeetsKinds, MeetKinds, literals, all_literals, members};
 ghost use Rattle.weighted_relations.specs.ExpressionLaws.{Alike};
-ghost use Rattle.thrax_link.specs.Views.{expression_of};
+ghost use Rattle.core_expressions.specs.Views.{expression_of};
 ghost use Rattle.grammar_build.specs.Kinds.{IsBuilt, AreBuilt};
 ghost use Rattle.grammar_build.specs.Sides.{side2_of};
 
 use crate::faults::BuildFault;
 use fst_core::{Fst, Side2, concat, cross, invert, project, star, text, union, weighted};
 use std::alloc::Global;
-use thrax_link::{Expr, Side};
+use core_expressions::{Expr, Side};
 
 /// A transducer with exactly the readings of the expression.
 ///

@@ -2,14 +2,14 @@
 
 ghost use Rattle.std.specs.Prelude.{◌≡◌, IfOk, [], ◌∷◌};
 ghost use Rattle.weighted_relations.specs.Expressions.{MeetsKinds, text, cross, concat, members};
-ghost use Rattle.thrax_link.specs.Views.{expression_of};
+ghost use Rattle.core_expressions.specs.Views.{expression_of};
 ghost use Rattle.grammar_build.specs.Kinds.{IsBuilt};
 
 use crate::build;
 use fst_core::Fst;
 use std::alloc::{AllocError, Global};
 use std::test::Fail;
-use thrax_link::Expr;
+use core_expressions::Expr;
 
 /// The text of one label, in a box.
 fn one(alloc: Global, label: u16) -> Result<Box<Expr>, AllocError>

@@ -5,10 +5,10 @@ use Rattle.thrax_syntax.specs.declared.tree.Tree.{Tree}
 use Rattle.thrax_syntax.specs.declared.tree.Tree.TheVariants as trees
 use Rattle.thrax_syntax.specs.declared.tree.Tree.TheOpen as layer
 use Rattle.thrax_syntax.specs.declared.tree.Tree.TheFolds.{fold-roll-Tree}
-use Rattle.thrax_link.specs.declared.expressions.Expr.{Expr}
-use Rattle.thrax_link.specs.declared.expressions.Expr.TheVariants as exprs
-use Rattle.thrax_link.specs.Views.{expression_of}
-use Rattle.thrax_link.specs.ViewLaws.{of_union, of_concat}
+use Rattle.core_expressions.specs.declared.expressions.Expr.{Expr}
+use Rattle.core_expressions.specs.declared.expressions.Expr.TheVariants as exprs
+use Rattle.core_expressions.specs.Views.{expression_of}
+use Rattle.core_expressions.specs.ViewLaws.{of_union, of_concat}
 use Rattle.weighted_relations.specs.Expressions as pure
 use Rattle.speak_core.specs.Thin.{expression, expressions}
 

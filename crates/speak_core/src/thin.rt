@@ -1,12 +1,12 @@
 // From the trees of the grammar that is read so far to expressions.
 
 ghost use Rattle.std.specs.Prelude.{◌≡◌, IfOk, map};
-ghost use Rattle.thrax_link.specs.Views.{expression_of};
+ghost use Rattle.core_expressions.specs.Views.{expression_of};
 ghost use Rattle.thrax_syntax.specs.Trees.{tree_term};
 ghost use Rattle.speak_core.specs.Thin.{expression};
 
 use std::alloc::{AllocError, Global};
-use thrax_link::Expr;
+use core_expressions::Expr;
 use thrax_syntax::Tree;
 
 /// The expression that a tree stands for. A tree of a kind that no text has yet stands for no reading.

@@ -6,7 +6,7 @@ use Rattle.weighted_relations.specs.Machines.{Reads}
 use Rattle.weighted_relations.specs.Relations.{Same}
 use Rattle.weighted_relations.specs.Expressions.{literals}
 use Rattle.weighted_relations.specs.ExpressionLaws.{Alike}
-use Rattle.thrax_link.specs.Views.{expression_of}
+use Rattle.core_expressions.specs.Views.{expression_of}
 use Rattle.grammar_build.proofs.Readings.{text_reads, weighted_reads, union_reads, concat_reads, star_reads, cross_reads, inputs_accept, outputs_accept, invert_reads, project_reads}
 use Rattle.grammar_build.proofs.Parts.{alike_more, tops_more, tops_all, part_kinds, part_built, part_depth}
 use Rattle.grammar_build.proofs.builds.+build.Goals as goal

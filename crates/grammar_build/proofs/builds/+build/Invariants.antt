@@ -3,7 +3,7 @@ use Rattle.std.specs.List.{sum_by}
 use Rattle.fst_core.specs.Top.{top_of}
 use Rattle.weighted_relations.specs.Expressions.{literals}
 use Rattle.weighted_relations.specs.ExpressionLaws.{Alike}
-use Rattle.thrax_link.specs.Views.{expression_of}
+use Rattle.core_expressions.specs.Views.{expression_of}
 use Rattle.grammar_build.proofs.builds.+build.Given as goal
 
 abbrev pub invariant-build_each-loop-part : goal.invariant-build_each-loop-part

@@ -1,5 +1,5 @@
 use Rattle.std.proofs.Common.{◌≡◌, take, map}
-use Rattle.thrax_link.specs.Views.{expression_of}
+use Rattle.core_expressions.specs.Views.{expression_of}
 use Rattle.thrax_syntax.specs.Trees.{tree_term}
 use Rattle.speak_core.specs.Thin.{expression}
 use Rattle.speak_core.proofs.thin.+thin.Given as goal

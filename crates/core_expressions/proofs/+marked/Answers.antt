@@ -4,10 +4,10 @@ use Rattle.std.proofs.lemmas.List.{take_all}
 use Rattle.std.proofs.lemmas.List.Folds.{list_any_at}
 use Rattle.weighted_relations.specs.Expressions.{is_marked, some_marked, holds_mark, members}
 use Rattle.weighted_relations.specs.MemberLaws.{some_marked_any, holds_mark_any}
-use Rattle.thrax_link.specs.declared.expressions.Expr.{Expr}
-use Rattle.thrax_link.specs.Views.{expression_of}
-use Rattle.thrax_link.specs.ViewLaws.{of_text}
-use Rattle.thrax_link.proofs.+marked.Goals as goal
+use Rattle.core_expressions.specs.declared.expressions.Expr.{Expr}
+use Rattle.core_expressions.specs.Views.{expression_of}
+use Rattle.core_expressions.specs.ViewLaws.{of_text}
+use Rattle.core_expressions.proofs.+marked.Goals as goal
 
 one_marked : (xs : List Expr) (i : ℕ) (x : Expr) → i < length xs → x ≡ get_or xs i x → is_marked (expression_of x) ≡ true → true ≡ some_marked (members (map expression_of xs))
 one_marked xs i x l e h = sym (some_marked_any expression_of xs ∙ list_any_at (λ e. is_marked (expression_of e)) xs i x l (subst (λ v. is_marked (expression_of v) ≡ true) e h))

@@ -2,7 +2,7 @@
 
 ghost use Rattle.std.specs.Prelude.{◌≡◌, map, min};
 ghost use Rattle.weighted_relations.specs.Expressions.{size, sizes, members};
-ghost use Rattle.thrax_link.specs.Views.{expression_of};
+ghost use Rattle.core_expressions.specs.Views.{expression_of};
 
 use crate::expressions::Expr;
 

@@ -3,13 +3,13 @@ use Rattle.std.specs.Prelude.{◌≡◌, ℕ, map, Vec}
 use Rattle.std.specs.declared.alloc.Global.{Global}
 use Rattle.std.proofs.Common.{sym, ap, ◌∙◌, Box}
 use Rattle.weighted_relations.specs.Expressions.{Expression, text, weighted, union, concat, star, cross, compose, minus, invert, project, members}
-use Rattle.thrax_link.specs.declared.expressions.Side.{Side}
-use Rattle.thrax_link.specs.declared.expressions.RewriteOf.{RewriteOf}
-use Rattle.thrax_link.specs.declared.expressions.Expr.{Expr}
-use Rattle.thrax_link.specs.declared.expressions.Expr.TheVariants as variants
-use Rattle.thrax_link.specs.declared.expressions.Expr.TheOpen as layer
-use Rattle.thrax_link.specs.declared.expressions.Expr.TheFolds.{fold-roll-Expr}
-use Rattle.thrax_link.specs.Views.{expression_of, expression_step, rewrite_step, rewrite_of, side_of}
+use Rattle.core_expressions.specs.declared.expressions.Side.{Side}
+use Rattle.core_expressions.specs.declared.expressions.RewriteOf.{RewriteOf}
+use Rattle.core_expressions.specs.declared.expressions.Expr.{Expr}
+use Rattle.core_expressions.specs.declared.expressions.Expr.TheVariants as variants
+use Rattle.core_expressions.specs.declared.expressions.Expr.TheOpen as layer
+use Rattle.core_expressions.specs.declared.expressions.Expr.TheFolds.{fold-roll-Expr}
+use Rattle.core_expressions.specs.Views.{expression_of, expression_step, rewrite_step, rewrite_of, side_of}
 
 pub of_text : (labels : Vec ℕ Global) → expression_of (variants.Text labels) ≡ text labels.items
 of_text labels = ap expression_of (sym (variants.rolls-Text labels)) ∙ fold-roll-Expr Expression Expression expression_step rewrite_step (layer.Text labels)

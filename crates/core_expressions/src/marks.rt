@@ -3,7 +3,7 @@
 ghost use Rattle.std.specs.Prelude.{◌≡◌, map, nat_lt};
 ghost use Rattle.std.specs.List.{list_any};
 ghost use Rattle.weighted_relations.specs.Expressions.{is_marked, some_marked, members};
-ghost use Rattle.thrax_link.specs.Views.{expression_of};
+ghost use Rattle.core_expressions.specs.Views.{expression_of};
 
 use crate::expressions::Expr;
 

@@ -1,7 +1,7 @@
 //! Copies of expressions.
 
 ghost use Rattle.std.specs.Prelude.{◌≡◌, IfOk, map};
-ghost use Rattle.thrax_link.specs.Views.{expression_of, rewrite_of};
+ghost use Rattle.core_expressions.specs.Views.{expression_of, rewrite_of};
 
 use crate::expressions::{Expr, RewriteOf};
 use std::alloc::{AllocError, Global};

@@ -2,14 +2,14 @@
 use Rattle.weighted_relations.specs.Rewriting.{Manner, obligatory, optional}
 use Rattle.weighted_relations.specs.Expressions as pure
 use Rattle.weighted_relations.specs.Expressions.{Expression, text, weighted, union, concat, star, cross, compose, minus, invert, project, rewrite, members, input_side, output_side}
-use Rattle.thrax_link.specs.declared.expressions.Side.{Side}
-use Rattle.thrax_link.specs.declared.expressions.Side.TheVariants as side
-use Rattle.thrax_link.specs.declared.expressions.Mode.{Mode}
-use Rattle.thrax_link.specs.declared.expressions.Mode.TheVariants as mode
-use Rattle.thrax_link.specs.declared.expressions.Expr.{Expr}
-use Rattle.thrax_link.specs.declared.expressions.RewriteOf.{RewriteOf}
-use Rattle.thrax_link.specs.declared.expressions.Expr.TheOpen.{Expr-F, RewriteOf-F, Text, Weighted, Union, Concat, Star, Cross, Compose, Minus, Invert, Project, Rewrite}
-use Rattle.thrax_link.specs.declared.expressions.Expr.TheFolds.{fold-Expr, fold-RewriteOf}
+use Rattle.core_expressions.specs.declared.expressions.Side.{Side}
+use Rattle.core_expressions.specs.declared.expressions.Side.TheVariants as side
+use Rattle.core_expressions.specs.declared.expressions.Mode.{Mode}
+use Rattle.core_expressions.specs.declared.expressions.Mode.TheVariants as mode
+use Rattle.core_expressions.specs.declared.expressions.Expr.{Expr}
+use Rattle.core_expressions.specs.declared.expressions.RewriteOf.{RewriteOf}
+use Rattle.core_expressions.specs.declared.expressions.Expr.TheOpen.{Expr-F, RewriteOf-F, Text, Weighted, Union, Concat, Star, Cross, Compose, Minus, Invert, Project, Rewrite}
+use Rattle.core_expressions.specs.declared.expressions.Expr.TheFolds.{fold-Expr, fold-RewriteOf}
 
 abbrev pub side_of : Side → pure.Side
 side_of side.Input = input_side

@@ -3,9 +3,9 @@ use Rattle.std.specs.List.{sum_by}
 use Rattle.std.proofs.lemmas.List.{take_all}
 use Rattle.weighted_relations.specs.Expressions.{size, sizes, members}
 use Rattle.weighted_relations.specs.MemberLaws.{sizes_sum}
-use Rattle.thrax_link.specs.declared.expressions.Expr.{Expr}
-use Rattle.thrax_link.specs.Views.{expression_of}
-use Rattle.thrax_link.proofs.+size.Goals as goal
+use Rattle.core_expressions.specs.declared.expressions.Expr.{Expr}
+use Rattle.core_expressions.specs.Views.{expression_of}
+use Rattle.core_expressions.proofs.+size.Goals as goal
 
 -- after the last part
 all_parts : (xs : List Expr) (i most : ℕ) → length xs ≤ i → min (sum_by (λ e. size (expression_of e)) (take i xs)) most ≡ min (sizes (members (map expression_of xs))) most
