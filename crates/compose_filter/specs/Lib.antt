@@ -1,0 +1,5 @@
+pub mod Combinations
+pub mod ComposedPaths
+pub mod Compositions
+pub mod Sorted
+pub mod Numbered
