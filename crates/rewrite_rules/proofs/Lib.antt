@@ -1,0 +1,12 @@
+pub mod Sound
+pub mod Complete
+pub mod Gapless
+pub mod Numbering
+pub mod Drawing
+pub mod Listing
+pub mod Fitting
+pub mod AnyReadings
+pub mod Accepting
+pub mod Standing
+pub mod Grouping
+pub mod Unmarked

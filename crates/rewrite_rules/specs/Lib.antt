@@ -1,0 +1,14 @@
+pub mod Manners
+pub mod Gaps
+pub mod Moves
+pub mod Bimachine
+pub mod Stands
+pub mod Numbered
+pub mod AnyTexts
+pub mod Languages
+pub mod PartsOf
+pub mod Classes
+pub mod Befores
+pub mod Tables
+pub mod Steps
+pub mod Drawn
