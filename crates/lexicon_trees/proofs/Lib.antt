@@ -1,0 +1,5 @@
+pub mod RowEdits
+pub mod RowsHeld
+pub mod TreePlaces
+pub mod Growth
+pub mod Walks
