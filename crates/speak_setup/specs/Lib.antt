@@ -1,0 +1,3 @@
+pub mod Forms
+pub mod Setups
+pub mod Parts
