@@ -1,2 +1,4 @@
 pub mod Readings
 pub mod Parts
+pub mod Rewritings
+pub mod Members

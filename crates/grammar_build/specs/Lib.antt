@@ -1,2 +1,3 @@
-pub mod Kinds
+pub mod Empties
+pub mod Parts
 pub mod Sides

@@ -1,45 +1,63 @@
 -- From the stop of a run to its status and to what is told of it.
-use Rattle.std.proofs.Common.{inl, inr, ◌≡◌, ◌⊎◌, ◌==◌, ℕ, ◌+◌, ◌≤◌, ◌^◌, List, [], None, Some, Ok, Err, Bool, true, false, IfSome, IfOk, IfErr, OnOk, IsSomeAnd, length, refl, sym, ap, ◌∙◌, subst, arith, if◌then◌else◌, String, Global}
+use Rattle.std.proofs.Common.{inl, inr, ◌≡◌, ◌⊎◌, ◌==◌, ℕ, ◌+◌, ◌≤◌, ◌^◌, List, [], None, Some, Ok, Err, Bool, true, false, IfSome, IfOk, IfErr, OnOk, IsSomeAnd, length, refl, sym, ap, ◌∙◌, subst, arith, if◌then◌else◌, String, Vec, Global}
 use Rattle.std.specs.Io.KnownBytes.{IsAtEnd}
 use Rattle.std.specs.Prelude.{Result, Option}
+use Rattle.std.specs.Result.{IsErrAnd}
 use Rattle.norm_base.specs.Bytes.{AppendsPrefix}
 use Rattle.norm_base.specs.Counts.{capped}
 use Rattle.norm_base.specs.Files.{Files}
 use Rattle.norm_base.proofs.Front.{prefix_none}
 use Rattle.weighted_relations.specs.Expressions.{Expression}
-use Rattle.speak_core.specs.Accepted.{Accepted, NotRead}
+use Rattle.speak_core.specs.Accepted.{Accepted, Asks, IsRefusal, IsOnly, spoken_by, refused}
 use Rattle.speak_core.specs.Commands.{setup_name}
 use Rattle.speak_core.specs.Inputs.{GaveMore}
+use Rattle.speak_core.specs.Loaded.{StopsAs}
 use Rattle.speak_core.specs.Owed.{Owed, SpeaksAll}
-use Rattle.speak_core.specs.Stops.{status_of, text_of, last_text, SomeRose, NoneRose, AllCounts, IsAccepted, IsEnd}
-use Rattle.speak_core.specs.Told.{TellsLast, TellsTwice, TellsShort, TellsStop, MayTell, no_text, wrong_words, not_read, outside, too_long}
+use Rattle.speak_core.specs.Stops.{status_of, text_of, last_text, SomeRose, NoneRose, AllCounts, IsAccepted, IsEnd, IsRefusalStop}
+use Rattle.speak_core.specs.Told.{TellsLast, TellsTwice, TellsShort, TellsStop, MayTell, no_text, wrong_words, refusal, outside, too_long}
 use Rattle.speak_core.specs.declared.stop.Stop.{Stop}
-use Rattle.speak_core.specs.declared.stop.Stop.TheVariants.{Words, NotRead as NotReadStop, Outside, Memory, TooLong}
+use Rattle.speak_core.specs.declared.stop.Stop.TheVariants.{Words, Refused, Outside, Memory, TooLong}
 
 stop_of : ℕ → Stop
-stop_of n = if n == 2 then Words else (if n == 3 then NotReadStop else (if n == 4 then Outside else (if n == 6 then TooLong else Memory)))
+stop_of n = if n == 2 then Words else (if n == 4 then Outside else (if n == 6 then TooLong else Memory))
 
-stop_of_status : (s : Stop) → stop_of (status_of s) ≡ s
-unfolding stop_of
-stop_of_status Words = refl
-stop_of_status NotReadStop = refl
-stop_of_status Outside = refl
-stop_of_status Memory = refl
-stop_of_status TooLong = refl
+-- a stop without a text of its own
+plain : Stop → Bool
+plain (Refused text) = false
+plain _ = true
+
+stop_of_status : (s : Stop) → plain s ≡ true → stop_of (status_of s) ≡ s
+unfolding stop_of plain
+stop_of_status Words p = refl
+stop_of_status (Refused text) p = absurd (let e : false ≡ true = p in cc)
+stop_of_status Outside p = refl
+stop_of_status Memory p = refl
+stop_of_status TooLong p = refl
+
+plain_status : (s : Stop) → (status_of s == 3) ≡ false → plain s ≡ true
+unfolding plain
+plain_status Words p = refl
+plain_status (Refused text) p = absurd (let e : true ≡ false = p in cc)
+plain_status Outside p = refl
+plain_status Memory p = refl
+plain_status TooLong p = refl
 
 status_least : (s : Stop) → 2 ≤ status_of s
 status_least Words = omega arith
-status_least NotReadStop = omega arith
+status_least (Refused text) = omega arith
 status_least Outside = omega arith
 status_least Memory = omega arith
 status_least TooLong = omega arith
 
 status_most : (s : Stop) → status_of s ≤ 6
 status_most Words = omega arith
-status_most NotReadStop = omega arith
+status_most (Refused text) = omega arith
 status_most Outside = omega arith
 status_most Memory = omega arith
 status_most TooLong = omega arith
+
+same_stop : (s t : Stop) → status_of s ≡ status_of t → (status_of t == 3) ≡ false → s ≡ t
+same_stop s t e other = sym (stop_of_status s (plain_status s (subst (λ (n : ℕ). (n == 3) ≡ false) (sym e) other))) ∙ ap stop_of e ∙ stop_of_status t (plain_status t other)
 
 not_five : (t : Stop) (n : ℕ) → n ≡ status_of t → (status_of t == 5) ≡ false → n ≡ 5 → ⊥
 not_five t n is other five =
@@ -47,12 +65,30 @@ not_five t n is other five =
     let k : true ≡ false = subst (λ m. (m == 5) ≡ false) h other in
     cc
 
--- a status other than that of want of memory tells the stop
-pub stopped_at : (r : Result Bool Stop) (t : Stop) (n : ℕ) → IsEnd n r → n ≡ status_of t → (status_of t == 5) ≡ false → r ≡ Err t
-stopped_at (Ok true) t n end is other = let l = status_least t in absurd (omega (arith, end, is, l))
-stopped_at (Ok false) t n end is other = let l = status_least t in absurd (omega (arith, end, is, l))
-stopped_at (Err s) t n (inl e) is other = ap Err (sym (stop_of_status s) ∙ ap stop_of (sym e ∙ is) ∙ stop_of_status t)
-stopped_at (Err s) t n (inr e) is other = absurd (not_five t n is other e)
+-- a status other than those of a refusal and of want of memory tells the stop
+pub stopped_at : (r : Result Bool Stop) (t : Stop) (n : ℕ) → IsEnd n r → n ≡ status_of t → (status_of t == 5) ≡ false → (status_of t == 3) ≡ false → r ≡ Err t
+stopped_at (Ok true) t n end is other named = let l = status_least t in absurd (omega (arith, end, is, l))
+stopped_at (Ok false) t n end is other named = let l = status_least t in absurd (omega (arith, end, is, l))
+stopped_at (Err s) t n (inl e) is other named = ap Err (same_stop s t (sym e ∙ is) named)
+stopped_at (Err s) t n (inr e) is other named = absurd (not_five t n is other e)
+
+-- a run that stopped at a refusal
+pub record AtRefusal (r : Result Bool Stop) : Type 0 where
+  pub text : Vec ℕ Global
+  pub is : r ≡ Err (Refused text)
+
+pub refused_at : (r : Result Bool Stop) (n : ℕ) → IsEnd n r → n ≡ 3 → AtRefusal r
+refused_at (Ok true) n end is = absurd (omega (arith, end, is))
+refused_at (Ok false) n end is = absurd (omega (arith, end, is))
+refused_at (Err Words) n (inl e) is = absurd (omega (arith, e, is))
+refused_at (Err Words) n (inr e) is = absurd (omega (arith, e, is))
+refused_at (Err (Refused text)) n end is = record { text = text; is = refl }
+refused_at (Err Outside) n (inl e) is = absurd (omega (arith, e, is))
+refused_at (Err Outside) n (inr e) is = absurd (omega (arith, e, is))
+refused_at (Err Memory) n (inl e) is = absurd (omega (arith, e, is))
+refused_at (Err Memory) n (inr e) is = absurd (omega (arith, e, is))
+refused_at (Err TooLong) n (inl e) is = absurd (omega (arith, e, is))
+refused_at (Err TooLong) n (inr e) is = absurd (omega (arith, e, is))
 
 pub end_at : (r : Result Bool Stop) (t : Stop) (n : ℕ) → IsEnd n r → r ≡ Err t → (n ≡ status_of t) ⊎ (n ≡ 5)
 end_at r t n end is = subst (λ v. IsEnd n v) is end
@@ -86,19 +122,30 @@ some_refused_at (Err s) n (inl e) z = let m = status_least s in absurd (omega (a
 some_refused_at (Err s) n (inr e) z = absurd (omega (arith, e, z))
 
 -- a refusal of the words, or of what they name
-pub is_refusal : (r : Result Bool Stop) (n : ℕ) → IsEnd n r → (n ≡ 2) ⊎ (n ≡ 3) → (r ≡ Err Words) ⊎ (r ≡ Err NotReadStop)
-is_refusal r n end (inl e) = inl (stopped_at r Words n end e refl)
-is_refusal r n end (inr e) = inr (stopped_at r NotReadStop n end e refl)
+pub is_refusal : (r : Result Bool Stop) (n : ℕ) → IsEnd n r → (n ≡ 2) ⊎ (n ≡ 3) → IsErrAnd r IsRefusalStop
+is_refusal r n end (inl e) = subst (λ v. IsErrAnd v IsRefusalStop) (sym (stopped_at r Words n end e refl refl)) tt
+is_refusal r n end (inr e) = let at = refused_at r n end e in subst (λ v. IsErrAnd v IsRefusalStop) (sym at.is) tt
 
-pub refused_end : (words : List (String Global)) (known : Option Files) (r : Result Bool Stop) (n : ℕ) → IsEnd n r → (r ≡ Err Words → setup_name words ≡ None) → (IsAccepted r → IfSome known (λ files. NotRead words files → ⊥))
-    → IfSome known (λ files. NotRead words files → (n ≡ 3) ⊎ ((n ≡ 4) ⊎ (n ≡ 5)))
+pub refused_end : (words : List (String Global)) (known : Option Files) (r : Result Bool Stop) (n : ℕ) → IsEnd n r → (r ≡ Err Words → setup_name words ≡ None) → (IsAccepted r → IfSome known (λ files. (text : List ℕ) → Asks words files (refused text) → ⊥))
+    → IfSome known (λ files. (text : List ℕ) → Asks words files (refused text) → (n ≡ 3) ⊎ ((n ≡ 4) ⊎ (n ≡ 5)))
 refused_end words None r n end wrong accepted = tt
-refused_end words (Some files) (Ok b) n end wrong accepted = λ h. absurd (accepted tt h)
-refused_end words (Some files) (Err Words) n end wrong accepted = λ h. absurd (h.is_command (wrong refl))
-refused_end words (Some files) (Err NotReadStop) n end wrong accepted = λ h. elim end [ inl e ↦ inl e | inr e ↦ inr (inr e) ]
-refused_end words (Some files) (Err Outside) n end wrong accepted = λ h. elim end [ inl e ↦ inr (inl e) | inr e ↦ inr (inr e) ]
-refused_end words (Some files) (Err Memory) n end wrong accepted = λ h. elim end [ inl e ↦ inr (inr e) | inr e ↦ inr (inr e) ]
-refused_end words (Some files) (Err TooLong) n end wrong accepted = λ h. absurd (accepted tt h)
+refused_end words (Some files) (Ok b) n end wrong accepted = λ text h. absurd (accepted tt text h)
+refused_end words (Some files) (Err Words) n end wrong accepted = λ text h. absurd (let no_name : Some h.name ≡ None = sym h.is_command ∙ wrong refl in cc)
+refused_end words (Some files) (Err (Refused t)) n end wrong accepted = λ text h. elim end [ inl e ↦ inl e | inr e ↦ inr (inr e) ]
+refused_end words (Some files) (Err Outside) n end wrong accepted = λ text h. elim end [ inl e ↦ inr (inl e) | inr e ↦ inr (inr e) ]
+refused_end words (Some files) (Err Memory) n end wrong accepted = λ text h. elim end [ inl e ↦ inr (inr e) | inr e ↦ inr (inr e) ]
+refused_end words (Some files) (Err TooLong) n end wrong accepted = λ text h. absurd (accepted tt text h)
+
+-- the refusal that a run stopped at, where the files are known
+pub refusal_known : (words : List (String Global)) (known : Option Files) (r : Result Bool Stop) (text : Vec ℕ Global) → r ≡ Err (Refused text) → IfErr r (λ s. IfSome known (λ files. StopsAs (Asks words files) s)) → IfSome known (λ files. IsRefusal words files text.items)
+refusal_known words known r text is refusals = subst (λ v. IfErr v (λ s. IfSome known (λ files. StopsAs (Asks words files) s))) is refusals
+
+some_text : (words : List (String Global)) (known : Option Files) (text : List ℕ) → IfSome known (λ files. IsRefusal words files text) → IfSome known (λ files. (t : List ℕ) × IsRefusal words files t)
+some_text words None text h = tt
+some_text words (Some files) text h = (text, h)
+
+pub refusal_end : (words : List (String Global)) (known : Option Files) (r : Result Bool Stop) (n : ℕ) → IsEnd n r → n ≡ 3 → IfErr r (λ s. IfSome known (λ files. StopsAs (Asks words files) s)) → IfSome known (λ files. (t : List ℕ) × IsRefusal words files t)
+refusal_end words known r n end is refusals = let at = refused_at r n end is in some_text words known at.text.items (refusal_known words known r at.text at.is refusals)
 
 pub long_end : (left now : Option (List ℕ)) (r : Result Bool Stop) (n : ℕ) → IsEnd n r → IfSome left (λ before. IfSome now (λ after. GaveMore before after → r ≡ Err TooLong))
     → IfSome left (λ before. IfSome now (λ after. GaveMore before after → (n ≡ 6) ⊎ (n ≡ 5)))
@@ -136,7 +183,7 @@ speaks_at words known left out out' err err' err'' r b is done kept =
 -- what is known of a run that stopped
 pub record Known (words : List (String Global)) (known : Option Files) (left now : Option (List ℕ)) (Rises : Type 0) (r : Result Bool Stop) : Type 0 where
   pub wrong : r ≡ Err Words → setup_name words ≡ None
-  pub unread : r ≡ Err NotReadStop → IfSome known (λ files. NotRead words files)
+  pub refusals : IfErr r (λ s. IfSome known (λ files. StopsAs (Asks words files) s))
   pub rises : r ≡ Err Outside → Rises
   pub long : r ≡ Err TooLong → IfSome left (λ before. IsSomeAnd now (λ after. GaveMore before after))
 
@@ -154,7 +201,7 @@ complete_end words (Some files) None now Rises r n end k = tt
 complete_end words (Some files) (Some input) now Rises (Ok true) n end k = λ e a l calm. inl (omega (arith, end))
 complete_end words (Some files) (Some input) now Rises (Ok false) n end k = λ e a l calm. inl (omega (arith, end))
 complete_end words (Some files) (Some input) now Rises (Err Words) n end k = λ e a l calm. absurd (named words files e a (k.wrong refl))
-complete_end words (Some files) (Some input) now Rises (Err NotReadStop) n end k = λ e a l calm. absurd ((k.unread refl).refused e a)
+complete_end words (Some files) (Some input) now Rises (Err (Refused text)) n end k = λ e a l calm. absurd (let same : spoken_by e ≡ refused text.items = k.refusals.only (spoken_by e) a in cc)
 complete_end words (Some files) (Some input) now Rises (Err Outside) n end k = λ e a l calm. absurd (calm (k.rises refl))
 complete_end words (Some files) (Some input) now Rises (Err Memory) n end k = λ e a l calm. elim end [ inl e ↦ inr e | inr e ↦ inr e ]
 complete_end words (Some files) (Some input) now Rises (Err TooLong) n end k = λ e a l calm. absurd (not_long input now l (k.long refl))
@@ -166,21 +213,36 @@ tells_last n e e' e'' old mid new faults t is other told later lines = record {
 }
 
 -- after a refusal nothing else stands in the errors
-pub told_refusal : (r : Result Bool Stop) (t : Stop) (n e e' e'' : ℕ) (old mid new : Option (List ℕ)) → IsEnd n r → IfErr r (λ s. TellsStop n e' e'' mid new s) → n ≡ status_of t → (status_of t == 5) ≡ false → e ≤ e' → mid ≡ old → TellsLast e e'' old new [] (text_of t)
-told_refusal r t n e e' e'' old mid new end told is other later same =
-    tells_last n e e' e'' old mid new [] t is other (subst (λ v. IfErr v (λ s. TellsStop n e' e'' mid new s)) (stopped_at r t n end is other) told) later (subst (λ m. AppendsPrefix old m []) (sym same) (prefix_none old []))
+pub told_words : (r : Result Bool Stop) (n e e' e'' : ℕ) (old mid new : Option (List ℕ)) → IsEnd n r → IfErr r (λ s. TellsStop n e' e'' mid new s) → n ≡ 2 → e ≤ e' → mid ≡ old → TellsLast e e'' old new [] (text_of Words)
+told_words r n e e' e'' old mid new end told is later same =
+    tells_last n e e' e'' old mid new [] Words is refl (subst (λ v. IfErr v (λ s. TellsStop n e' e'' mid new s)) (stopped_at r Words n end is refl refl) told) later (subst (λ m. AppendsPrefix old m []) (sym same) (prefix_none old []))
 
-pub told_stop : (words : List (String Global)) (known : Option Files) (left : Option (List ℕ)) (r : Result Bool Stop) (t : Stop) (n e e' e'' : ℕ) (old mid new : Option (List ℕ)) → IsEnd n r → IfErr r (λ s. TellsStop n e' e'' mid new s) → n ≡ status_of t → (status_of t == 5) ≡ false → e ≤ e'
+told_text : (words : List (String Global)) (known : Option Files) (text : List ℕ) (T : List ℕ → Type 0) → IfSome known (λ files. IsRefusal words files text) → T text → IfSome known (λ files. (other : List ℕ) → Asks words files (refused other) → T other)
+told_text words None text T one told = tt
+told_text words (Some files) text T one told = λ other a.
+    let both : refused other ≡ refused text = one.only (refused other) a in
+    let same : text ≡ other = cc in
+    subst T same told
+
+pub told_refusal : (words : List (String Global)) (known : Option Files) (r : Result Bool Stop) (n e e' e'' : ℕ) (old mid new : Option (List ℕ)) → IsEnd n r → IfErr r (λ s. TellsStop n e' e'' mid new s) → n ≡ 3 → e ≤ e' → mid ≡ old
+    → IfErr r (λ s. IfSome known (λ files. StopsAs (Asks words files) s))
+    → IfSome known (λ files. (text : List ℕ) → Asks words files (refused text) → TellsLast e e'' old new [] text)
+told_refusal words known r n e e' e'' old mid new end told is later same refusals =
+    let at = refused_at r n end is in
+    told_text words known at.text.items (λ t. TellsLast e e'' old new [] t) (refusal_known words known r at.text at.is refusals)
+    (tells_last n e e' e'' old mid new [] (Refused at.text) is refl (subst (λ v. IfErr v (λ s. TellsStop n e' e'' mid new s)) at.is told) later (subst (λ m. AppendsPrefix old m []) (sym same) (prefix_none old [])))
+
+pub told_stop : (words : List (String Global)) (known : Option Files) (left : Option (List ℕ)) (r : Result Bool Stop) (t : Stop) (n e e' e'' : ℕ) (old mid new : Option (List ℕ)) → IsEnd n r → IfErr r (λ s. TellsStop n e' e'' mid new s) → n ≡ status_of t → (status_of t == 5) ≡ false → (status_of t == 3) ≡ false → e ≤ e'
     → IfSome known (λ files. IfSome left (λ input. (output faults : List ℕ) → Owed words files input output faults → AppendsPrefix old mid faults))
     → IfSome known (λ files. IfSome left (λ input. (output faults : List ℕ) → Owed words files input output faults → TellsLast e e'' old new faults (text_of t)))
-told_stop words None left r t n e e' e'' old mid new end told is other later lines = tt
-told_stop words (Some files) None r t n e e' e'' old mid new end told is other later lines = tt
-told_stop words (Some files) (Some input) r t n e e' e'' old mid new end told is other later lines = λ output faults owed.
-    tells_last n e e' e'' old mid new faults t is other (subst (λ v. IfErr v (λ s. TellsStop n e' e'' mid new s)) (stopped_at r t n end is other) told) later (lines output faults owed)
+told_stop words None left r t n e e' e'' old mid new end told is other named later lines = tt
+told_stop words (Some files) None r t n e e' e'' old mid new end told is other named later lines = tt
+told_stop words (Some files) (Some input) r t n e e' e'' old mid new end told is other named later lines = λ output faults owed.
+    tells_last n e e' e'' old mid new faults t is other (subst (λ v. IfErr v (λ s. TellsStop n e' e'' mid new s)) (stopped_at r t n end is other named) told) later (lines output faults owed)
 
 may_tell : (words : List (String Global)) (files : Files) (input : List ℕ) (now : Option (List ℕ)) (Rises : Type 0) (s : Stop) → Known words (Some files) (Some input) now Rises (Err s) → MayTell words files Rises (IsSomeAnd now (λ after. GaveMore input after)) (last_text s)
 may_tell words files input now Rises Words k = wrong_words (k.wrong refl)
-may_tell words files input now Rises NotReadStop k = not_read (k.unread refl)
+may_tell words files input now Rises (Refused text) k = refusal text.items k.refusals.found
 may_tell words files input now Rises Outside k = outside (k.rises refl)
 may_tell words files input now Rises Memory k = no_text
 may_tell words files input now Rises TooLong k = too_long (k.long refl)

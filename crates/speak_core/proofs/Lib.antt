@@ -1,9 +1,5 @@
-pub mod Cut
-pub mod Values
 pub mod Spoken
-pub mod ThinTrees
 pub mod SoFar
-pub mod Terms
 pub mod Found
 pub mod Runs
 pub mod Endings

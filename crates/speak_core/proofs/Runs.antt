@@ -1,39 +1,75 @@
 -- From the rule that was found to what a run owes.
-use Rattle.std.proofs.Common.{◌≡◌, ℕ, List, None, Some, Bool, IfSome, sym, ◌∙◌, subst, String, Global}
+use Rattle.std.proofs.Common.{◌≡◌, ℕ, List, None, Some, Ok, Err, Bool, Result, IfSome, IfErr, sym, ◌∙◌, subst, String, Global}
 use Rattle.std.specs.declared.option.Option.{Option}
+use Rattle.std.specs.Result.{IsErrAnd}
 use Rattle.norm_base.specs.Bytes.{AppendsPrefix}
 use Rattle.norm_base.specs.Files.{Files}
 use Rattle.norm_base.proofs.Front.{prefix_none}
 use Rattle.weighted_relations.specs.Expressions.{Expression, Rel}
 use Rattle.weighted_relations.specs.Machines.{Machine, Reads}
 use Rattle.weighted_relations.specs.RelationLaws.{same_sym}
-use Rattle.speak_core.specs.Accepted.{Accepted, NotRead, IsRule}
+use Rattle.speak_core.specs.Accepted.{Accepted, Asked, Asks, SetupAsks, spoken_by, refused}
 use Rattle.speak_core.specs.Answers.{AllSpoken, written, told}
 use Rattle.speak_core.specs.Commands.{setup_name}
-use Rattle.speak_core.specs.Lines.{lines}
-use Rattle.speak_core.specs.Loaded.{Loaded}
+use Rattle.text_lines.specs.Lines.{lines}
+use Rattle.speak_core.specs.Loaded.{Loaded, StopsAs}
 use Rattle.speak_core.specs.Owed.{Owed, nothing, lines_of, SpeaksAll}
 use Rattle.speak_core.specs.Parts.{Speaks}
+use Rattle.speak_core.specs.Stops.{IsDeviceStop, IsReadingStop, IsRefusalStop}
+use Rattle.speak_core.specs.declared.stop.Stop.{Stop}
+use Rattle.speak_core.specs.declared.stop.Stop.TheVariants as stop
+use Rattle.speak_core.proofs.Found.{Alike, stops_lift, device_stops}
 use Rattle.speak_core.proofs.Spoken.{all_spoken_to}
 
-pub rule_accepted : (words : List (String Global)) (files : Files) (name : List ℕ) (m : Machine) → Some name ≡ setup_name words → (l : Loaded (IsRule files name) m) → Accepted words files l.expression
-rule_accepted words files name m command l = record { name = name; is_command = sym command; is_rule = l.found }
+pub asks_same : (words : List (String Global)) (files : Files) (name : List ℕ) → Some name ≡ setup_name words → Alike (SetupAsks files name) (Asks words files)
+asks_same words files name command = record { to = λ a s. record { name = name; is_command = sym command; setup = s }; back = λ a s. same_name words files name a command s } where
+  same_name : (w : List (String Global)) (f : Files) (n : List ℕ) (a : Asked) → Some n ≡ setup_name w → Asks w f a → SetupAsks f n a
+  same_name w f n a c s =
+      let both : Some s.name ≡ Some n = sym s.is_command ∙ sym c in
+      let same : s.name ≡ n = cc in
+      subst (λ m. SetupAsks f m a) same s.setup
 
-same_name : (words : List (String Global)) (files : Files) (name : List ℕ) (e : Expression) → Some name ≡ setup_name words → Accepted words files e → IsRule files name e
-same_name words files name e command a =
-    let both : Some a.name ≡ Some name = sym a.is_command ∙ sym command in
-    let same : a.name ≡ name = cc in
-    subst (λ n. IsRule files n e) same a.is_rule
+pub rule_accepted : (words : List (String Global)) (files : Files) (name : List ℕ) (m : Machine) → Some name ≡ setup_name words → (l : Loaded (SetupAsks files name) m) → Accepted words files l.expression
+rule_accepted words files name m command l = record { name = name; is_command = sym command; setup = l.is_only.found }
 
-pub rule_only : (words : List (String Global)) (files : Files) (name : List ℕ) (m : Machine) (e : Expression) → Some name ≡ setup_name words → (l : Loaded (IsRule files name) m) → Accepted words files e → e ≡ l.expression
-rule_only words files name m e command l a = l.only e (same_name words files name e command a)
+pub rule_only : (words : List (String Global)) (files : Files) (name : List ℕ) (m : Machine) (e : Expression) → Some name ≡ setup_name words → (l : Loaded (SetupAsks files name) m) → Accepted words files e → e ≡ l.expression
+rule_only words files name m e command l a =
+    let both : spoken_by e ≡ spoken_by l.expression = l.is_only.only (spoken_by e) ((asks_same words files name command).back (spoken_by e) a) in
+    cc
 
-pub rule_refused : (words : List (String Global)) (known : Option Files) (name : List ℕ) → Some name ≡ setup_name words → IfSome known (λ files. (e : Expression) → IsRule files name e → ⊥) → IfSome known (λ files. NotRead words files)
-rule_refused words None name command h = tt
-rule_refused words (Some files) name command h = record {
-  is_command = λ e. (let none : Some name ≡ None = command ∙ e in cc);
-  refused = λ e a. h e (same_name words files name e command a);
-}
+-- the refusal of a rule is the refusal of a run
+pub run_stops : (words : List (String Global)) (known : Option Files) (name : List ℕ) (s : Stop) → Some name ≡ setup_name words → IfSome known (λ files. StopsAs (SetupAsks files name) s) → IfSome known (λ files. StopsAs (Asks words files) s)
+run_stops words None name s command h = tt
+run_stops words (Some files) name s command h = stops_lift (SetupAsks files name) (Asks words files) s (asks_same words files name command) h
+
+pub reading_stops : (words : List (String Global)) (known : Option Files) (s : Stop) → IsReadingStop s → IfSome known (λ files. StopsAs (Asks words files) s)
+reading_stops words None s h = tt
+reading_stops words (Some files) stop.Words h = tt
+reading_stops words (Some files) (stop.Refused text) h = absurd h
+reading_stops words (Some files) stop.Outside h = tt
+reading_stops words (Some files) stop.Memory h = tt
+reading_stops words (Some files) stop.TooLong h = tt
+
+pub words_stops : (words : List (String Global)) (known : Option Files) → IfSome known (λ files. StopsAs (Asks words files) stop.Words)
+words_stops words None = tt
+words_stops words (Some files) = tt
+
+ending_stops : (words : List (String Global)) (known : Option Files) (s : Stop) → IsDeviceStop s → IfSome known (λ files. StopsAs (Asks words files) s)
+ending_stops words None s h = tt
+ending_stops words (Some files) s h = device_stops (Asks words files) s h
+
+pub lines_stops : {T : Type 0} (words : List (String Global)) (known : Option Files) (r : Result T Stop) → IfErr r IsDeviceStop → IfErr r (λ s. IfSome known (λ files. StopsAs (Asks words files) s))
+lines_stops words known (Ok x) h = tt
+lines_stops words known (Err s) h = ending_stops words known s h
+
+-- the lines end in no refusal
+pub lines_refuse : {T : Type 0} (r : Result T Stop) → IfErr r IsDeviceStop → IsErrAnd r IsRefusalStop → ⊥
+lines_refuse (Ok x) h k = k
+lines_refuse (Err stop.Words) h k = h
+lines_refuse (Err (stop.Refused text)) h k = h
+lines_refuse (Err stop.Outside) h k = k
+lines_refuse (Err stop.Memory) h k = k
+lines_refuse (Err stop.TooLong) h k = h
 
 -- nothing was written
 pub owes_nothing : (words : List (String Global)) (known : Option Files) (left old : Option (List ℕ)) → IfSome known (λ files. IfSome left (λ input. (output faults : List ℕ) → Owed words files input output faults → AppendsPrefix old old output))
@@ -47,40 +83,40 @@ owes_no_faults words (Some files) None old = tt
 owes_no_faults words (Some files) (Some input) old = λ output faults owed. prefix_none old faults
 
 -- what the lines of the input say, by the relation of the rule, is what they say by its transducer
-by_machine : (files : Files) (name input bytes : List ℕ) (m : Machine) (e : Expression) (answers : List (Option (List ℕ))) (l : Loaded (IsRule files name) m) → e ≡ l.expression → bytes ≡ input → AllSpoken (Rel e) (lines input) answers → AllSpoken (Reads m) (lines bytes) answers
+by_machine : (files : Files) (name input bytes : List ℕ) (m : Machine) (e : Expression) (answers : List (Option (List ℕ))) (l : Loaded (SetupAsks files name) m) → e ≡ l.expression → bytes ≡ input → AllSpoken (Rel e) (lines input) answers → AllSpoken (Reads m) (lines bytes) answers
 by_machine files name input bytes m e answers l same is spoken =
     let there = all_spoken_to (Rel l.expression) (Reads m) (same_sym (Reads m) (Rel l.expression) l.readings) (lines input) answers (subst (λ f. AllSpoken (Rel f) (lines input) answers) same spoken) in
     subst (λ b. AllSpoken (Reads m) (lines b) answers) (sym is) there
 
-owed_words : (words : List (String Global)) (files : Files) (name input bytes : List ℕ) (m : Machine) (old new : Option (List ℕ)) (output faults : List ℕ) → Some name ≡ setup_name words → Loaded (IsRule files name) m → bytes ≡ input
+owed_words : (words : List (String Global)) (files : Files) (name input bytes : List ℕ) (m : Machine) (old new : Option (List ℕ)) (output faults : List ℕ) → Some name ≡ setup_name words → Loaded (SetupAsks files name) m → bytes ≡ input
     → ((answers : List (Option (List ℕ))) → AllSpoken (Reads m) (lines bytes) answers → AppendsPrefix old new (written answers))
     → Owed words files input output faults → AppendsPrefix old new output
-owed_words words files name input bytes m old new output faults command l is front (nothing refused) = absurd (refused l.expression (rule_accepted words files name m command l))
+owed_words words files name input bytes m old new output faults command l is front (nothing none) = absurd (none l.expression (rule_accepted words files name m command l))
 owed_words words files name input bytes m old new output faults command l is front (lines_of e answers a spoken) =
     front answers (by_machine files name input bytes m e answers l (rule_only words files name m e command l a) is spoken)
 
-owed_faults : (words : List (String Global)) (files : Files) (name input bytes : List ℕ) (m : Machine) (old new : Option (List ℕ)) (output faults : List ℕ) → Some name ≡ setup_name words → Loaded (IsRule files name) m → bytes ≡ input
+owed_faults : (words : List (String Global)) (files : Files) (name input bytes : List ℕ) (m : Machine) (old new : Option (List ℕ)) (output faults : List ℕ) → Some name ≡ setup_name words → Loaded (SetupAsks files name) m → bytes ≡ input
     → ((answers : List (Option (List ℕ))) → AllSpoken (Reads m) (lines bytes) answers → AppendsPrefix old new (told 1 answers))
     → Owed words files input output faults → AppendsPrefix old new faults
-owed_faults words files name input bytes m old new output faults command l is front (nothing refused) = absurd (refused l.expression (rule_accepted words files name m command l))
+owed_faults words files name input bytes m old new output faults command l is front (nothing none) = absurd (none l.expression (rule_accepted words files name m command l))
 owed_faults words files name input bytes m old new output faults command l is front (lines_of e answers a spoken) =
     front answers (by_machine files name input bytes m e answers l (rule_only words files name m e command l a) is spoken)
 
-pub run_words : (words : List (String Global)) (known : Option Files) (left : Option (List ℕ)) (name bytes : List ℕ) (m : Machine) (old new : Option (List ℕ)) → Some name ≡ setup_name words → IfSome known (λ files. Loaded (IsRule files name) m) → IfSome left (λ input. bytes ≡ input)
+pub run_words : (words : List (String Global)) (known : Option Files) (left : Option (List ℕ)) (name bytes : List ℕ) (m : Machine) (old new : Option (List ℕ)) → Some name ≡ setup_name words → IfSome known (λ files. Loaded (SetupAsks files name) m) → IfSome left (λ input. bytes ≡ input)
     → ((answers : List (Option (List ℕ))) → AllSpoken (Reads m) (lines bytes) answers → AppendsPrefix old new (written answers))
     → IfSome known (λ files. IfSome left (λ input. (output faults : List ℕ) → Owed words files input output faults → AppendsPrefix old new output))
 run_words words None left name bytes m old new command l is front = tt
 run_words words (Some files) None name bytes m old new command l is front = tt
 run_words words (Some files) (Some input) name bytes m old new command l is front = λ output faults. owed_words words files name input bytes m old new output faults command l is front
 
-pub run_faults : (words : List (String Global)) (known : Option Files) (left : Option (List ℕ)) (name bytes : List ℕ) (m : Machine) (old new : Option (List ℕ)) → Some name ≡ setup_name words → IfSome known (λ files. Loaded (IsRule files name) m) → IfSome left (λ input. bytes ≡ input)
+pub run_faults : (words : List (String Global)) (known : Option Files) (left : Option (List ℕ)) (name bytes : List ℕ) (m : Machine) (old new : Option (List ℕ)) → Some name ≡ setup_name words → IfSome known (λ files. Loaded (SetupAsks files name) m) → IfSome left (λ input. bytes ≡ input)
     → ((answers : List (Option (List ℕ))) → AllSpoken (Reads m) (lines bytes) answers → AppendsPrefix old new (told 1 answers))
     → IfSome known (λ files. IfSome left (λ input. (output faults : List ℕ) → Owed words files input output faults → AppendsPrefix old new faults))
 run_faults words None left name bytes m old new command l is front = tt
 run_faults words (Some files) None name bytes m old new command l is front = tt
 run_faults words (Some files) (Some input) name bytes m old new command l is front = λ output faults. owed_faults words files name input bytes m old new output faults command l is front
 
-pub run_speaks : (words : List (String Global)) (known : Option Files) (left : Option (List ℕ)) (name bytes : List ℕ) (m : Machine) (out out' err err' : Option (List ℕ)) (is_read : Bool) → Some name ≡ setup_name words → IfSome known (λ files. Loaded (IsRule files name) m) → IfSome left (λ input. bytes ≡ input)
+pub run_speaks : (words : List (String Global)) (known : Option Files) (left : Option (List ℕ)) (name bytes : List ℕ) (m : Machine) (out out' err err' : Option (List ℕ)) (is_read : Bool) → Some name ≡ setup_name words → IfSome known (λ files. Loaded (SetupAsks files name) m) → IfSome left (λ input. bytes ≡ input)
     → Speaks (Reads m) (lines bytes) out out' err err' is_read
     → IfSome known (λ files. IfSome left (λ input. SpeaksAll words files input out out' err err' is_read))
 run_speaks words None left name bytes m out out' err err' is_read command l is s = tt
@@ -98,6 +134,8 @@ run_speaks words (Some files) (Some input) name bytes m out out' err err' is_rea
 }
 
 -- words and files that are accepted aren't refused
-pub run_accepts : (words : List (String Global)) (known : Option Files) (name : List ℕ) (m : Machine) → Some name ≡ setup_name words → IfSome known (λ files. Loaded (IsRule files name) m) → IfSome known (λ files. NotRead words files → ⊥)
+pub run_accepts : (words : List (String Global)) (known : Option Files) (name : List ℕ) (m : Machine) → Some name ≡ setup_name words → IfSome known (λ files. Loaded (SetupAsks files name) m) → IfSome known (λ files. (text : List ℕ) → Asks words files (refused text) → ⊥)
 run_accepts words None name m command l = tt
-run_accepts words (Some files) name m command l = λ h. h.refused l.expression (rule_accepted words files name m command l)
+run_accepts words (Some files) name m command l = λ text a.
+    let both : refused text ≡ spoken_by l.expression = l.is_only.only (refused text) ((asks_same words files name command).back (refused text) a) in
+    cc

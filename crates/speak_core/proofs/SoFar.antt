@@ -7,7 +7,7 @@ use Rattle.norm_base.specs.Bytes.{AppendsPrefix}
 use Rattle.norm_base.proofs.Front.{prefix_then, prefix_first, prefix_all}
 use Rattle.weighted_relations.specs.Relations.{Relation}
 use Rattle.speak_core.specs.Answers.{AllSpoken, written, told}
-use Rattle.speak_core.specs.Lines.{lines}
+use Rattle.text_lines.specs.Lines.{lines}
 use Rattle.speak_core.specs.Parts.{SpokenPart, Speaks}
 use Rattle.speak_core.proofs.Spoken.{part_none, part_more, part_begins}
 

@@ -6,7 +6,7 @@ use Rattle.std.specs.declared.option.Option.{Option}
 use Rattle.weighted_relations.specs.Order.{least_unique}
 use Rattle.weighted_relations.specs.Relations.{Relation, Same}
 use Rattle.speak_core.specs.Answers.{Spoken, AllSpoken, words_text, written, fault_text, told, all_read}
-use Rattle.speak_core.specs.Lines.{lines}
+use Rattle.text_lines.specs.Lines.{lines}
 use Rattle.speak_core.specs.Parts.{SpokenPart, SpokenLine}
 
 -- one line says one thing

@@ -1,42 +1,65 @@
--- Which words and files are accepted, and the expression of the rule that they name.
-use Rattle.std.specs.Prelude.{◌≡◌, ℕ, List, [], ◌∷◌, Some, None, String, true}
+-- What words and files ask for: the rule of an expression, or a refusal with its text.
+use Rattle.std.specs.Prelude.{◌≡◌, ℕ, List, [], ◌∷◌, Some, None, Ok, Err, String, true, false}
 use Rattle.std.specs.declared.alloc.Global.{Global}
 use Rattle.norm_base.specs.Files.{Files, file_of}
-use Rattle.weighted_relations.specs.Expressions.{Expression}
-use Rattle.thrax_syntax.specs.Trees.{TreeTerm, define}
-use Rattle.thrax_syntax.specs.ThinGrammar.{FileText}
+use Rattle.weighted_relations.specs.Expressions.{Expression, is_marked}
+use Rattle.grammar_build.specs.Empties.{RewritesEmptyText}
+use Rattle.speak_setup.specs.Setups.{SetupNames, SetupText}
+use Rattle.speak_setup.specs.declared.setup.Need.TheVariants.{Classifier}
+use Rattle.speak_setup.specs.declared.setup.SetupFault.{SetupFault}
+use Rattle.thrax_meaning.specs.declared.why.Why.{Why}
+use Rattle.thrax_link.specs.Exports.{expression_named}
+use Rattle.thrax_link.specs.Linking.{Linked, refuses, exporting}
 use Rattle.speak_core.specs.Commands.{setup_name}
-use Rattle.speak_core.specs.Setups.{IsSetupText}
-use Rattle.speak_core.specs.Thin.{expression}
+use Rattle.speak_core.specs.Texts.{absent_text, several_text, setup_text, no_rule_text, marked_text, empty_text, refusal_text}
 
--- the text is a grammar file that exports this rule, and its tree stands for this expression
-pub record IsRuleText (text rule : List ℕ) (e : Expression) : Type 0 where
-  pub tree : TreeTerm
-  pub grammar : FileText (define true rule tree ∷ []) text
-  pub stands : e ≡ expression tree
+-- the lines are spoken by the rule of this expression, or all is refused with this text
+pub data Asked : Type 0 where
+  spoken_by : Expression → Asked
+  refused : List ℕ → Asked
 
--- the setup of this name, its grammar and its rule are there, and the rule stands for this expression
-pub record IsRule (files : Files) (name : List ℕ) (e : Expression) : Type 0 where
-  pub setup_text : List ℕ
-  pub has_setup : file_of files name ≡ Some setup_text
-  pub grammar : List ℕ
-  pub rule : List ℕ
-  pub is_setup : IsSetupText setup_text grammar rule
-  pub grammar_text : List ℕ
-  pub has_grammar : file_of files grammar ≡ Some grammar_text
-  pub is_rule : IsRuleText grammar_text rule e
+-- What a rule of a linked file asks for: it has to be exported, then without marks, and then without rewrites of the empty text.
+pub data RuleAsks (file name : List ℕ) (exports : List (List ℕ × Expression)) : Asked → Type 0 where
+  no_rule : expression_named exports name ≡ None → RuleAsks file name exports (refused (no_rule_text name file))
+  marked : (e : Expression) → expression_named exports name ≡ Some e → is_marked e ≡ true → RuleAsks file name exports (refused (marked_text name file))
+  rewrites_empty : (e : Expression) → expression_named exports name ≡ Some e → is_marked e ≡ false → RewritesEmptyText e → RuleAsks file name exports (refused (empty_text name))
+  accepted : (e : Expression) → expression_named exports name ≡ Some e → is_marked e ≡ false → (RewritesEmptyText e → ⊥) → RuleAsks file name exports (spoken_by e)
 
--- the words are the command's, and with these files they ask for the rule of this expression
-pub record Accepted (words : List (String Global)) (files : Files) (e : Expression) : Type 0 where
+-- what a rule of a grammar file asks for
+pub data GrammarAsks (files : Files) (file name : List ℕ) : Asked → Type 0 where
+  unlinked : (at : List ℕ) (statement : ℕ) (why : Why) → Linked files file (refuses at statement why) → GrammarAsks files file name (refused (refusal_text at statement why))
+  linked : (exports : List (List ℕ × Expression)) (asked : Asked) → Linked files file (exporting exports) → RuleAsks file name exports asked → GrammarAsks files file name asked
+
+-- what the names of a setup ask for
+pub data NamesAsk (files : Files) (names : SetupNames) : Asked → Type 0 where
+  several : (first second : List ℕ) (more : List (List ℕ)) → names.tokenizer_rules ≡ first ∷ second ∷ more → NamesAsk files names (refused several_text)
+  one : (name : List ℕ) (asked : Asked) → names.tokenizer_rules ≡ name ∷ [] → GrammarAsks files names.tokenizer name asked → NamesAsk files names asked
+
+-- what the setup of a name asks for
+pub data SetupAsks (files : Files) (name : List ℕ) : Asked → Type 0 where
+  absent : file_of files name ≡ None → SetupAsks files name (refused absent_text)
+  at_fault : (text : List ℕ) (fault : SetupFault) → file_of files name ≡ Some text → SetupText Classifier text (Err fault) → SetupAsks files name (refused (setup_text fault))
+  read : (text : List ℕ) (names : SetupNames) (asked : Asked) → file_of files name ≡ Some text → SetupText Classifier text (Ok names) → NamesAsk files names asked → SetupAsks files name asked
+
+-- the words are the command's, and with these files they ask for this
+pub record Asks (words : List (String Global)) (files : Files) (asked : Asked) : Type 0 where
   pub name : List ℕ
   pub is_command : setup_name words ≡ Some name
-  pub is_rule : IsRule files name e
+  pub setup : SetupAsks files name asked
 
--- these words and files ask for no rule
-abbrev pub Refused : List (String Global) → Files → Type 0
-Refused words files = (e : Expression) → Accepted words files e → ⊥
+-- the words and the files ask for the rule of this expression
+abbrev pub Accepted : List (String Global) → Files → Expression → Type 0
+Accepted words files e = Asks words files (spoken_by e)
 
--- the words are the command's, and the setup, the grammar or the rule isn't read
-pub record NotRead (words : List (String Global)) (files : Files) : Type 0 where
-  pub is_command : setup_name words ≡ None → ⊥
-  pub refused : Refused words files
+-- they ask for no rule
+abbrev pub AskForNone : List (String Global) → Files → Type 0
+AskForNone words files = (e : Expression) → Accepted words files e → ⊥
+
+-- this is asked for, and nothing else
+pub record IsOnly (Asks : Asked → Type 0) (asked : Asked) : Type 0 where
+  pub found : Asks asked
+  pub only : (other : Asked) → Asks other → other ≡ asked
+
+-- the words are the command's, and what they name is refused with this text
+abbrev pub IsRefusal : List (String Global) → Files → List ℕ → Type 0
+IsRefusal words files text = IsOnly (Asks words files) (refused text)

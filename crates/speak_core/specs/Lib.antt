@@ -1,7 +1,5 @@
-pub mod Lines
-pub mod Setups
 pub mod Commands
-pub mod Thin
+pub mod Texts
 pub mod Accepted
 pub mod Answers
 pub mod Owed

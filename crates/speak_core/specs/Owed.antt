@@ -3,15 +3,15 @@ use Rattle.std.specs.Prelude.{ℕ, List, [], Option, String, Bool}
 use Rattle.std.specs.declared.alloc.Global.{Global}
 use Rattle.norm_base.specs.Files.{Files}
 use Rattle.weighted_relations.specs.Expressions.{Expression, Rel}
-use Rattle.speak_core.specs.Accepted.{Accepted, Refused}
+use Rattle.speak_core.specs.Accepted.{Accepted, AskForNone}
 use Rattle.speak_core.specs.Answers.{AllSpoken, written, told}
-use Rattle.speak_core.specs.Lines.{lines}
+use Rattle.text_lines.specs.Lines.{lines}
 use Rattle.speak_core.specs.Parts.{Speaks}
 
 -- Owed words files input output faults: nothing where the words or the files are refused; else the words of each line
 -- of the input, and the fault of each line that the rule doesn't read.
 pub data Owed (words : List (String Global)) (files : Files) (input : List ℕ) : List ℕ → List ℕ → Type 0 where
-  nothing : Refused words files → Owed words files input [] []
+  nothing : AskForNone words files → Owed words files input [] []
   lines_of : (e : Expression) (answers : List (Option (List ℕ))) → Accepted words files e → AllSpoken (Rel e) (lines input) answers → Owed words files input (written answers) (told 1 answers)
 
 -- The words and the files are accepted, and all that is owed was written: the words of each line's least reading by the rule

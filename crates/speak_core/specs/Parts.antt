@@ -3,7 +3,7 @@ use Rattle.std.specs.Prelude.{◌≡◌, ℕ, ◌+◌, ◌≤◌, List, ◌++◌
 use Rattle.std.specs.Io.KnownBytes.{Appends}
 use Rattle.weighted_relations.specs.Relations.{Relation}
 use Rattle.speak_core.specs.Answers.{Spoken, AllSpoken, words_text, fault_text, written, told, all_read}
-use Rattle.speak_core.specs.Lines.{lines}
+use Rattle.text_lines.specs.Lines.{lines}
 
 -- The lines of a text up to a rest of it were spoken, of which the first comes after the line of number before, and the
 -- last has the number now: these are their words and their faults, and whether each was read.

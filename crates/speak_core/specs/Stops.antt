@@ -1,12 +1,12 @@
 -- Why a run ends before its lines do: the status and the text of each stop, and what the counts of the devices say of it.
-use Rattle.std.specs.Prelude.{◌≡◌, ◌⊎◌, ℕ, ◌≤◌, List, [], ◌∷◌, ◌++◌, codes, Result, Ok, Err, Bool, true, false}
+use Rattle.std.specs.Prelude.{◌≡◌, ◌⊎◌, ℕ, List, [], ◌∷◌, ◌++◌, codes, Result, Ok, Err, Bool, true, false}
 use Rattle.norm_base.specs.Counts.{Rose}
 use Rattle.speak_core.specs.declared.stop.Stop.{Stop}
-use Rattle.speak_core.specs.declared.stop.Stop.TheVariants.{Words, NotRead, Outside, Memory, TooLong}
+use Rattle.speak_core.specs.declared.stop.Stop.TheVariants.{Words, Refused, Outside, Memory, TooLong}
 
 abbrev pub status_of : Stop → ℕ
 status_of Words = 2
-status_of NotRead = 3
+status_of (Refused text) = 3
 status_of Outside = 4
 status_of Memory = 5
 status_of TooLong = 6
@@ -14,7 +14,7 @@ status_of TooLong = 6
 -- what is told of a stop
 abbrev pub text_of : Stop → List ℕ
 text_of Words = codes "bad arguments" ++ 10 ∷ []
-text_of NotRead = codes "not yet read" ++ 10 ∷ []
+text_of (Refused text) = text.items
 text_of Outside = codes "outside fault" ++ 10 ∷ []
 text_of Memory = codes "no memory" ++ 10 ∷ []
 text_of TooLong = codes "input too long" ++ 10 ∷ []
@@ -33,7 +33,7 @@ IsAccepted (Err stop) = ⊥
 -- The count of the one device that a part uses: it rose where the part stops at an outside fault, else it stays.
 abbrev pub Counts : {T : Type 0} → ℕ → ℕ → Result T Stop → Type 0
 Counts before now (Ok x) = now ≡ before
-Counts before now (Err Outside) = (before ≤ now) × Rose before now
+Counts before now (Err Outside) = Rose before now
 Counts before now (Err stop) = now ≡ before
 
 -- a device alone stops a part by an outside fault or for want of memory
@@ -41,6 +41,13 @@ abbrev pub IsDeviceStop : Stop → Type 0
 IsDeviceStop Outside = Unit {0}
 IsDeviceStop Memory = Unit {0}
 IsDeviceStop _ = ⊥
+
+-- what ends the reading of the input
+abbrev pub IsReadingStop : Stop → Type 0
+IsReadingStop Outside = Unit {0}
+IsReadingStop Memory = Unit {0}
+IsReadingStop TooLong = Unit {0}
+IsReadingStop _ = ⊥
 
 -- The counts of the two sinks: both stay where a part ends well, and one of them rose where it stops at an outside fault.
 abbrev pub SinkCounts : {T : Type 0} → ℕ → ℕ → ℕ → ℕ → Result T Stop → Type 0
@@ -56,6 +63,12 @@ SomeRose h h' s s' o o' e e' = Rose h h' ⊎ (Rose s s' ⊎ (Rose o o' ⊎ Rose 
 abbrev pub NoneRose : ℕ → ℕ → ℕ → ℕ → ℕ → ℕ → ℕ → ℕ → Type 0
 NoneRose h h' s s' o o' e e' = (h' ≡ h) × (s' ≡ s) × (o' ≡ o) × (e' ≡ e)
 
+-- the words are wrong, or what they name is refused
+abbrev pub IsRefusalStop : Stop → Type 0
+IsRefusalStop Words = Unit {0}
+IsRefusalStop (Refused text) = Unit {0}
+IsRefusalStop _ = ⊥
+
 -- The counts of all four: they stay where a run ends well or is refused, and one rose where it stops at an outside fault.
 abbrev pub AllCounts : {T : Type 0} → ℕ → ℕ → ℕ → ℕ → ℕ → ℕ → ℕ → ℕ → Result T Stop → Type 0
 AllCounts h h' s s' o o' e e' (Err Outside) = SomeRose h h' s s' o o' e e'
@@ -65,10 +78,16 @@ AllCounts h h' s s' o o' e e' (Err stop) = NoneRose h h' s s' o o' e e'
 
 -- what ends the reading of a setup and its rule
 abbrev pub IsReadStop : Stop → Type 0
-IsReadStop NotRead = Unit {0}
+IsReadStop (Refused text) = Unit {0}
 IsReadStop Outside = Unit {0}
 IsReadStop Memory = Unit {0}
 IsReadStop _ = ⊥
+
+-- what ends the building of a rule
+abbrev pub IsBuildStop : Stop → Type 0
+IsBuildStop (Refused text) = Unit {0}
+IsBuildStop Memory = Unit {0}
+IsBuildStop _ = ⊥
 
 -- the status of a stop, or that of want of memory
 abbrev pub IsStatus : ℕ → Stop → Type 0

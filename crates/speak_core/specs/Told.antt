@@ -5,11 +5,11 @@ use Rattle.std.specs.declared.alloc.Global.{Global}
 use Rattle.norm_base.specs.Bytes.{AppendsPrefix}
 use Rattle.norm_base.specs.Counts.{Rose}
 use Rattle.norm_base.specs.Files.{Files}
-use Rattle.speak_core.specs.Accepted.{NotRead}
+use Rattle.speak_core.specs.Accepted.{Asks, refused}
 use Rattle.speak_core.specs.Commands.{setup_name}
 use Rattle.speak_core.specs.Stops.{text_of}
 use Rattle.speak_core.specs.declared.stop.Stop.{Stop}
-use Rattle.speak_core.specs.declared.stop.Stop.TheVariants.{Words, NotRead as NotReadStop, Outside, TooLong, Memory}
+use Rattle.speak_core.specs.declared.stop.Stop.TheVariants.{Words, Outside, TooLong, Memory}
 
 -- a prefix of the faults of the lines, and then a text
 pub record TellsThen (old new : Option (List ℕ)) (faults text : List ℕ) : Type 0 where
@@ -28,12 +28,11 @@ pub record TellsLast (count count' : ℕ) (old new : Option (List ℕ)) (faults 
   pub whole : Rose count count' ⊎ TellsThen old new faults text
   pub front : TellsThenPrefix old new faults text
 
--- A text that a run may tell last, with its cause: that the words are wrong, that a setup, a grammar or a rule isn't read,
--- that a count rose, or that the input is too long. Where all is well it tells nothing.
+-- A text that a run may tell last, with its cause: that the words are wrong, that what they name is refused, that a count rose, or that the input is too long. Where all is well it tells nothing.
 pub data MayTell (words : List (String Global)) (files : Files) (Rises GivesMore : Type 0) : List ℕ → Type 0 where
   no_text : MayTell words files Rises GivesMore []
   wrong_words : setup_name words ≡ None → MayTell words files Rises GivesMore (text_of Words)
-  not_read : NotRead words files → MayTell words files Rises GivesMore (text_of NotReadStop)
+  refusal : (text : List ℕ) → Asks words files (refused text) → MayTell words files Rises GivesMore text
   outside : Rises → MayTell words files Rises GivesMore (text_of Outside)
   too_long : GivesMore → MayTell words files Rises GivesMore (text_of TooLong)
 

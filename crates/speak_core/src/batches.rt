@@ -4,13 +4,13 @@ ghost use Rattle.std.specs.Prelude.{◌≡◌, ◌<◌, ◌+◌, ◌^◌, ◌++�
 ghost use Rattle.weighted_relations.specs.Machines.{Reads};
 ghost use Rattle.weighted_relations.specs.Relations.{IsUnmarked};
 ghost use Rattle.speak_core.specs.Answers.{words_text, fault_text};
-ghost use Rattle.speak_core.specs.Lines.{lines};
+ghost use Rattle.text_lines.specs.Lines.{lines};
 ghost use Rattle.speak_core.specs.Parts.{SpokenLine, SpokenPart};
 
-use crate::lines::first_line;
 use crate::rule::answer_of;
 use fst_core::Fst;
 use std::alloc::{AllocError, Global};
+use text_lines::first_line;
 
 /// A batch ends once it has so many bytes for one of the sinks.
 const FULL: usize = 65_536;

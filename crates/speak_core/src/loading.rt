@@ -1,130 +1,121 @@
 // From the files of a shelf to the rule that they name.
 
-ghost use Rattle.std.specs.Prelude.{◌≡◌, ◌∷◌, [], IfErr, IfNone, IfOk, IfSome, IsErrOf, ℕ, List, true};
-ghost use Rattle.norm_base.specs.Files.{file_of};
-ghost use Rattle.std.specs.Str.{IsUtf8};
-ghost use Rattle.thrax_syntax.specs.Trees.{TreeTerm, define, file_term, tree_term};
-ghost use Rattle.weighted_relations.specs.Expressions.{Expression};
+ghost use Rattle.std.specs.Prelude.{◌≡◌, ◌≤◌, ◌∷◌, [], All, length, IfErr, IfOk, IfSome, List, ℕ};
 ghost use Rattle.weighted_relations.specs.Machines.{Reads};
 ghost use Rattle.weighted_relations.specs.Relations.{IsUnmarked};
-ghost use Rattle.speak_core.specs.Accepted.{IsRule, IsRuleText};
-ghost use Rattle.speak_core.specs.Loaded.{FoundSetup, FoundRule, Loaded, NoSetup, NoRule};
-ghost use Rattle.speak_core.specs.Setups.{IsValue};
-ghost use Rattle.speak_core.specs.Stops.{Counts, IsReadStop};
+ghost use Rattle.speak_setup.specs.Setups.{HasNames, names_of};
+ghost use Rattle.thrax_link.specs.Exports.{exports_of};
+ghost use Rattle.speak_core.specs.Accepted.{NamesAsk, RuleAsks, SetupAsks};
+ghost use Rattle.speak_core.specs.Loaded.{Finds, FindsGrammar, FindsSetup};
+ghost use Rattle.speak_core.specs.Stops.{Counts, IsBuildStop, IsReadStop};
 
 use crate::outside::fetch;
-use crate::setup::{Need, Setup, SetupFault, read_setup};
 use crate::stop::Stop;
-use crate::thin::expression;
+use crate::texts;
 use fst_core::Fst;
 use grammar_build::{BuildFault, build};
 use norm_base::{Name, Shelf};
+use speak_setup::{Need, Setup, SetupFault, read_setup};
 use std::alloc::Global;
-use std::str::from_utf8;
-use thrax_syntax::{File, ReadFault, Statement, Tree, read_file};
+use thrax_link::{Grammar, LinkFault, link};
 
 /// The rule that the setup of this name asks for.
 pub(crate) fn find_rule<H: Shelf>(alloc: Global, shelf: &mut H, name: &str) -> Result<Fst, Stop>
-    ensures found { IfOk result (λ rule. IfSome (H.files shelf.old) (λ files. Loaded (IsRule files name.now) rule)) }
+    ensures finds { IfSome (H.files shelf.old) (λ files. Finds (SetupAsks files name.now) result) }
     ensures unmarked { IfOk result (λ rule. IsUnmarked (Reads rule)) }
-    ensures not_read { IsErrOf result Stop.NotRead → IfSome (H.files shelf.old) (λ files. (e : Expression) → IsRule files name.now e → ⊥) }
     ensures files { H.files shelf.new ≡ H.files shelf.old }
     ensures counts { Counts (H.faults shelf.old) (H.faults shelf.new) result }
     ensures stops { IfErr result IsReadStop }
 {
-    let setup = find_setup(alloc, shelf, name)?;
-    find_grammar(alloc, shelf, &setup)
+    match find_setup(alloc, shelf, name) {
+        Ok(setup) => find_named(alloc, shelf, &setup),
+        Err(stop) => Err(stop),
+    }
 }
 
 /// The setup of this name.
 fn find_setup<H: Shelf>(alloc: Global, shelf: &mut H, name: &str) -> Result<Setup, Stop>
-    ensures found { IfOk result (λ setup. FoundSetup (H.files shelf.old) name.now setup) }
-    ensures not_read { IsErrOf result Stop.NotRead → IfSome (H.files shelf.old) (λ files. NoSetup files name.now) }
+    ensures finds { IfSome (H.files shelf.old) (λ files. FindsSetup files name.now result) }
+    ensures names { IfOk result (λ setup. HasNames (names_of setup)) }
     ensures files { H.files shelf.new ≡ H.files shelf.old }
     ensures counts { Counts (H.faults shelf.old) (H.faults shelf.new) result }
     ensures stops { IfErr result IsReadStop }
 {
-    let Some(text) = fetch(shelf, name)? else {
-        return Err(Stop::NotRead);
+    let text = match fetch(shelf, name) {
+        Ok(Some(text)) => text,
+        Ok(None) => return Err(Stop::refused(Vec::from_slice(alloc, b"setup: not found\n"))),
+        Err(stop) => return Err(stop),
     };
     match read_setup(alloc, &text, Need::Classifier) {
         Ok(setup) => Ok(setup),
-        Err(SetupFault::NotYet) => Err(Stop::NotRead),
         Err(SetupFault::Memory) => Err(Stop::Memory),
+        Err(fault) => Err(Stop::refused(texts::setup(alloc, fault))),
     }
 }
 
 /// The rule of a setup.
-fn find_grammar<H: Shelf>(alloc: Global, shelf: &mut H, setup: &Setup) -> Result<Fst, Stop>
-    requires value { IsValue setup.now.tokenizer }
-    requires one { (rule : List ℕ) × (setup.now.tokenizer_rules.items ≡ rule ∷ []) }
-    ensures found { IfOk result (λ rule. FoundRule (H.files shelf.old) setup.now rule) }
+fn find_named<H: Shelf>(alloc: Global, shelf: &mut H, setup: &Setup) -> Result<Fst, Stop>
+    requires { HasNames (names_of setup.now) }
+    ensures finds { IfSome (H.files shelf.old) (λ files. Finds (NamesAsk files (names_of setup.now)) result) }
     ensures unmarked { IfOk result (λ rule. IsUnmarked (Reads rule)) }
-    ensures not_read { IsErrOf result Stop.NotRead → IfSome (H.files shelf.old) (λ files. NoRule files setup.now) }
     ensures files { H.files shelf.new ≡ H.files shelf.old }
     ensures counts { Counts (H.faults shelf.old) (H.faults shelf.new) result }
     ensures stops { IfErr result IsReadStop }
 {
-    let Some(text) = fetch(shelf, name_text(&setup.tokenizer))? else {
-        return Err(Stop::NotRead);
-    };
-    read_rule(alloc, &text, first_rule(setup))
+    if setup.tokenizer_rules.as_slice().len() != 1 {
+        return Err(Stop::refused(Vec::from_slice(alloc, b"not yet read\n")));
+    }
+    match find_grammar(alloc, shelf, &setup.tokenizer) {
+        Ok(grammar) => build_rule(alloc, &grammar, &setup.tokenizer, first_rule(setup)),
+        Err(stop) => Err(stop),
+    }
 }
 
-/// The rule of a setup that has one.
+/// The first rule of a setup.
 fn first_rule(setup: &Setup) -> &Name
-    requires { (rule : List ℕ) × (setup.now.tokenizer_rules.items ≡ rule ∷ []) }
-    ensures { setup.now.tokenizer_rules.items ≡ result.now ∷ [] }
+    requires { 1 ≤ length setup.now.tokenizer_rules.items }
+    ensures { length setup.now.tokenizer_rules.items ≡ 1 → setup.now.tokenizer_rules.items ≡ result.now ∷ [] }
 {
     &setup.tokenizer_rules[0]
 }
 
-/// The rule of this name in the text of a grammar file.
-fn read_rule(alloc: Global, text: &[u8], name: &Name) -> Result<Fst, Stop>
-    ensures found { IfOk result (λ rule. Loaded (IsRuleText text.now name.now) rule) }
-    ensures unmarked { IfOk result (λ rule. IsUnmarked (Reads rule)) }
-    ensures not_read { IsErrOf result Stop.NotRead → (e : Expression) → IsRuleText text.now name.now e → ⊥ }
-    ensures stops { (IsErrOf result Stop.Words → ⊥) × (IsErrOf result Stop.TooLong → ⊥) × (IsErrOf result Stop.Outside → ⊥) }
+/// What the grammar file of this name exports.
+fn find_grammar<H: Shelf>(alloc: Global, shelf: &mut H, file: &Name) -> Result<Grammar, Stop>
+    requires { All (λ b. (32 ≤ b) × (b ≤ 126)) file.now }
+    ensures finds { IfSome (H.files shelf.old) (λ files. FindsGrammar files file.now result) }
+    ensures files { H.files shelf.new ≡ H.files shelf.old }
+    ensures counts { Counts (H.faults shelf.old) (H.faults shelf.new) result }
+    ensures stops { IfErr result IsReadStop }
 {
-    let file = match read_file(alloc, text) {
-        Ok(file) => file,
-        Err(ReadFault::NotYet) => return Err(Stop::NotRead),
-        Err(ReadFault::Memory) => return Err(Stop::Memory),
-    };
-    let Some(tree) = exported(&file, name) else {
-        return Err(Stop::NotRead);
-    };
-    let e = expression(alloc, tree)?;
-    match build(alloc, &e) {
-        Ok(rule) => Ok(rule),
-        Err(BuildFault::Memory) => Err(Stop::Memory),
-    }
-}
-
-/// The tree of this name, where it is all that a file defines, and exported.
-fn exported<'a>(file: &'a File, name: &Name) -> Option<&'a Tree>
-    ensures found { IfSome result (λ tree. file_term file.now ≡ define true name.now (tree_term tree.now) ∷ []) }
-    ensures none { IfNone result ((tree : TreeTerm) → file_term file.now ≡ define true name.now tree ∷ [] → ⊥) }
-{
-    match file.statements.as_slice() {
-        [
-            Statement::Define {
-                export: true,
-                name: found,
-                value,
+    match link(alloc, shelf, file) {
+        Ok(grammar) => Ok(grammar),
+        Err(
+            LinkFault::Refused {
+                file,
+                statement,
+                why,
             },
-        ] if *found == *name => Some(value),
-        _ => None,
+        ) => Err(Stop::refused(texts::refusal(alloc, &file, statement, why))),
+        Err(LinkFault::ShelfFault) => Err(Stop::Outside),
+        Err(LinkFault::Memory) => Err(Stop::Memory),
     }
 }
 
-/// A name that is text.
-fn name_text(name: &Name) -> &str
-    requires { IsUtf8 name.now }
-    ensures { result.now ≡ name.now }
+/// The transducer of this rule of what a file exports.
+fn build_rule(alloc: Global, grammar: &Grammar, file: &Name, rule: &Name) -> Result<Fst, Stop>
+    ensures finds { Finds (RuleAsks file.now rule.now (exports_of grammar.now)) result }
+    ensures unmarked { IfOk result (λ rule. IsUnmarked (Reads rule)) }
+    ensures stops { IfErr result IsBuildStop }
 {
-    match from_utf8(name.bytes()) {
-        Ok(text) => text,
-        Err(_) => unreachable!(),
+    let Some(e) = grammar.rule(rule) else {
+        return Err(Stop::refused(texts::no_rule(alloc, rule, file)));
+    };
+    if e.is_marked() {
+        return Err(Stop::refused(texts::marked(alloc, rule, file)));
+    }
+    match build(alloc, e) {
+        Ok(fst) => Ok(fst),
+        Err(BuildFault::RewritesEmpty) => { Err(Stop::refused(texts::rewrites_empty(alloc, rule))) }
+        Err(BuildFault::Memory) => Err(Stop::Memory),
     }
 }

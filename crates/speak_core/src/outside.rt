@@ -5,7 +5,7 @@ ghost use Rattle.std.specs.Io.KnownBytes.{Appends, Consumes, IsAtEnd};
 ghost use Rattle.norm_base.specs.Bytes.{AppendsPrefix};
 ghost use Rattle.norm_base.specs.Files.{Fetches};
 ghost use Rattle.speak_core.specs.Inputs.{GaveMore};
-ghost use Rattle.speak_core.specs.Stops.{Counts, IsDeviceStop};
+ghost use Rattle.speak_core.specs.Stops.{Counts, IsDeviceStop, IsReadingStop};
 
 use crate::stop::Stop;
 use norm_base::{FetchFault, Shelf, Sink, SinkFault, Source, put_all};
@@ -51,7 +51,7 @@ pub(crate) fn read_all<S: Source>(alloc: Global, source: &mut S) -> Result<Vec<u
     ensures too_long { IsErrOf result Stop.TooLong → IfSome (S.left source.old) (λ before. IsSomeAnd (S.left source.new) (λ now. GaveMore before now)) }
     ensures only_too_long { IfSome (S.left source.old) (λ before. IfSome (S.left source.new) (λ now. GaveMore before now → IsErrOf result Stop.TooLong)) }
     ensures counts { Counts (S.faults source.old) (S.faults source.new) result }
-    ensures stops { (result ≡ Err Stop.NotRead → ⊥) × (result ≡ Err Stop.Words → ⊥) }
+    ensures stops { IfErr result IsReadingStop }
 {
     let mut bytes = Vec::new(alloc);
     let mut piece = [0u8; 16_384];

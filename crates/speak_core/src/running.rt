@@ -1,13 +1,15 @@
 // A run of the command.
 
-ghost use Rattle.std.specs.Prelude.{◌≡◌, ◌⊎◌, ◌↔◌, ◌≤◌, IfOk, IfSome, IsErrOf, IsSomeAnd, OnOk, None, List, ℕ, String};
+ghost use Rattle.std.specs.Prelude.{◌≡◌, ◌↔◌, ◌≤◌, IfErr, IfOk, IfSome, IsErrOf, IsSomeAnd, OnOk, None, List, ℕ, String};
+ghost use Rattle.std.specs.Result.{IsErrAnd};
 ghost use Rattle.std.specs.Io.KnownBytes.{IsAtEnd};
 ghost use Rattle.norm_base.specs.Bytes.{AppendsPrefix};
-ghost use Rattle.speak_core.specs.Accepted.{NotRead};
+ghost use Rattle.speak_core.specs.Accepted.{Asks, refused};
 ghost use Rattle.speak_core.specs.Commands.{setup_name};
 ghost use Rattle.speak_core.specs.Inputs.{GaveMore};
+ghost use Rattle.speak_core.specs.Loaded.{StopsAs};
 ghost use Rattle.speak_core.specs.Owed.{Owed, SpeaksAll};
-ghost use Rattle.speak_core.specs.Stops.{AllCounts, IsAccepted};
+ghost use Rattle.speak_core.specs.Stops.{AllCounts, IsAccepted, IsRefusalStop};
 
 use crate::loading::find_rule;
 use crate::outside::read_all;
@@ -27,8 +29,8 @@ pub(crate) fn run<H: Shelf, S: Source, O: Sink, E: Sink>(
     err: &mut E,
 ) -> Result<bool, Stop>
     ensures words { IsErrOf result Stop.Words ↔ (setup_name words.now ≡ None) }
-    ensures not_read { IsErrOf result Stop.NotRead → IfSome (H.files shelf.old) (λ files. NotRead words.now files) }
-    ensures only_not_read { IsAccepted result → IfSome (H.files shelf.old) (λ files. NotRead words.now files → ⊥) }
+    ensures refused { IfErr result (λ stop. IfSome (H.files shelf.old) (λ files. StopsAs (Asks words.now files) stop)) }
+    ensures only_refused { IsAccepted result → IfSome (H.files shelf.old) (λ files. (text : List ℕ) → Asks words.now files (refused text) → ⊥) }
     ensures too_long { IsErrOf result Stop.TooLong → IfSome (S.left source.old) (λ before. IsSomeAnd (S.left source.new) (λ now. GaveMore before now)) }
     ensures only_too_long { IfSome (S.left source.old) (λ before. IfSome (S.left source.new) (λ now. GaveMore before now → IsErrOf result Stop.TooLong)) }
     ensures done { IfOk result (λ is_read. IfSome (H.files shelf.old) (λ files. IfSome (S.left source.old) (λ input.
@@ -38,9 +40,9 @@ pub(crate) fn run<H: Shelf, S: Source, O: Sink, E: Sink>(
         → Owed words.now files input output faults → AppendsPrefix (O.held out.old) (O.held out.new) output)) }
     ensures faults_front { IfSome (H.files shelf.old) (λ files. IfSome (S.left source.old) (λ input. (output faults : List ℕ)
         → Owed words.now files input output faults → AppendsPrefix (E.held err.old) (E.held err.new) faults)) }
-    ensures silent_out { (IsErrOf result Stop.Words ⊎ IsErrOf result Stop.NotRead) → O.held out.new ≡ O.held out.old }
-    ensures silent_err { (IsErrOf result Stop.Words ⊎ IsErrOf result Stop.NotRead) → E.held err.new ≡ E.held err.old }
-    ensures unread { (IsErrOf result Stop.Words ⊎ IsErrOf result Stop.NotRead) → S.left source.new ≡ S.left source.old }
+    ensures silent_out { IsErrAnd result IsRefusalStop → O.held out.new ≡ O.held out.old }
+    ensures silent_err { IsErrAnd result IsRefusalStop → E.held err.new ≡ E.held err.old }
+    ensures unread { IsErrAnd result IsRefusalStop → S.left source.new ≡ S.left source.old }
     ensures files { H.files shelf.new ≡ H.files shelf.old }
     ensures counts { AllCounts (H.faults shelf.old) (H.faults shelf.new) (S.faults source.old) (S.faults source.new)
         (O.faults out.old) (O.faults out.new) (E.faults err.old) (E.faults err.new) result }
@@ -49,7 +51,13 @@ pub(crate) fn run<H: Shelf, S: Source, O: Sink, E: Sink>(
     let Some(name) = find_setup(words) else {
         return Err(Stop::Words);
     };
-    let rule = find_rule(alloc, shelf, name)?;
-    let input = read_all(alloc, source)?;
+    let rule = match find_rule(alloc, shelf, name) {
+        Ok(rule) => rule,
+        Err(stop) => return Err(stop),
+    };
+    let input = match read_all(alloc, source) {
+        Ok(input) => input,
+        Err(stop) => return Err(stop),
+    };
     speak_lines(alloc, &rule, &input, out, err)
 }

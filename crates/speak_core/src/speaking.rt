@@ -6,7 +6,7 @@ ghost use Rattle.norm_base.specs.Bytes.{AppendsPrefix};
 ghost use Rattle.weighted_relations.specs.Machines.{Reads};
 ghost use Rattle.weighted_relations.specs.Relations.{IsUnmarked};
 ghost use Rattle.speak_core.specs.Answers.{AllSpoken, written, told};
-ghost use Rattle.speak_core.specs.Lines.{lines};
+ghost use Rattle.text_lines.specs.Lines.{lines};
 ghost use Rattle.speak_core.specs.Parts.{Speaks};
 ghost use Rattle.speak_core.specs.Stops.{IsDeviceStop, SinkCounts};
 

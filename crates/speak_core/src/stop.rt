@@ -1,16 +1,16 @@
-ghost use Rattle.std.specs.Prelude.{◌≡◌};
+ghost use Rattle.std.specs.Prelude.{◌≡◌, MatchResult};
 ghost use Rattle.speak_core.specs.Stops.{status_of, text_of};
-ghost use Rattle.speak_core.specs.declared.stop.Stop.TheVariants.{Memory};
+ghost use Rattle.speak_core.specs.declared.stop.Stop.TheVariants.{Memory, Refused};
 
 use std::alloc::{AllocError, AllocFailed};
 
 /// Why a run ends before its lines do.
-#[derive(Clone, Copy, Debug, PartialEq, Eq)]
+#[derive(Debug, Drop)]
 pub(crate) enum Stop {
     /// The words aren't the command's.
     Words,
-    /// The setup, the grammar or the rule isn't read.
-    NotRead,
+    /// The setup, a grammar or a rule is refused, with this text.
+    Refused(Vec<u8>),
     /// A device failed.
     Outside,
     Memory,
@@ -19,13 +19,23 @@ pub(crate) enum Stop {
 }
 
 impl Stop {
+    /// The refusal with this text, or want of memory where there was none for it.
+    pub(crate) fn refused(text: Result<Vec<u8>, AllocError>) -> Stop
+        ensures { MatchResult text (λ found. result ≡ Refused found) (λ _. result ≡ Memory) }
+    {
+        match text {
+            Ok(text) => Stop::Refused(text),
+            Err(_) => Stop::Memory,
+        }
+    }
+
     /// The status of a run that stops so.
-    pub(crate) fn status(self) -> u8
-        ensures { result ≡ status_of self }
+    pub(crate) fn status(&self) -> u8
+        ensures { result ≡ status_of self.now }
     {
         match self {
             Stop::Words => 2,
-            Stop::NotRead => 3,
+            Stop::Refused(_) => 3,
             Stop::Outside => 4,
             Stop::Memory => 5,
             Stop::TooLong => 6,
@@ -33,12 +43,12 @@ impl Stop {
     }
 
     /// What is told of it.
-    pub(crate) fn text(self) -> &'static [u8]
-        ensures { result.now ≡ text_of self }
+    pub(crate) fn text(&self) -> &[u8]
+        ensures { result.now ≡ text_of self.now }
     {
         match self {
             Stop::Words => b"bad arguments\n",
-            Stop::NotRead => b"not yet read\n",
+            Stop::Refused(text) => text,
             Stop::Outside => b"outside fault\n",
             Stop::Memory => b"no memory\n",
             Stop::TooLong => b"input too long\n",

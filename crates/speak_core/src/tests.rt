@@ -35,14 +35,16 @@ fn shelf(alloc: Global, files: &[(&str, &[u8])], fails: &[u64]) -> Result<MemShe
     Ok(MemShelf::new(alloc, all, Vec::from_slice(alloc, fails)?))
 }
 
-// A run over one grammar, on devices that don't fail.
-fn run_over<R: Threads + Sync>(
+// A run of the command over these files and one more, which is the setup, on devices that don't fail.
+fn run_files<R: Threads + Sync>(
     rt: &R,
     alloc: Global,
+    setup: &[u8],
     grammar: &[u8],
+    other: (&str, &[u8]),
     input: &[u8],
 ) -> Result<Left, AllocError> {
-    let files: [(&str, &[u8]); 2] = [("s", SETUP), ("g.grm", grammar)];
+    let files: [(&str, &[u8]); 3] = [("s", setup), ("g.grm", grammar), other];
     run_with(rt, alloc, &COMMAND, &files, input, &[&[], &[], &[], &[]])
 }
 
@@ -77,268 +79,583 @@ fn run_with<R: Threads + Sync>(
     Ok(Left { status, out, err })
 }
 
+// A grammar, one more file, an input, the output, the errors, the status.
+const SPOKEN: [(&[u8], (&str, &[u8]), &[u8], &[u8], &[u8], u8); 39] = [
+    // weights, and what comes first among equal ones
+    (
+        b"export MAIN = (\"a\" : \"b\") | (\"a\" : (\"c\" <2>));",
+        ("", b""),
+        b"a\n",
+        b"b\n",
+        b"",
+        0,
+    ),
+    (
+        b"export MAIN = (\"a\" : (\"b\" <2>)) | (\"a\" : \"c\");",
+        ("", b""),
+        b"a\n",
+        b"c\n",
+        b"",
+        0,
+    ),
+    (
+        b"export MAIN = (\"a\" : \"zz\") | (\"a\" : \"y\");",
+        ("", b""),
+        b"a\n",
+        b"y\n",
+        b"",
+        0,
+    ),
+    (
+        b"export MAIN = (\"a\" : \"y\") | (\"a\" : \"x\");",
+        ("", b""),
+        b"a\n",
+        b"x\n",
+        b"",
+        0,
+    ),
+    (
+        b"export MAIN = (\"a\" : \"b\" <0.5>) | (\"a\" : \"c\" <0.4999>);",
+        ("", b""),
+        b"a\n",
+        b"c\n",
+        b"",
+        0,
+    ),
+    (
+        b"export MAIN = (\"a\" : \"b\" <0.0002>) | (\"a\" : \"zz\" <.0001>);",
+        ("", b""),
+        b"a\n",
+        b"zz\n",
+        b"",
+        0,
+    ),
+    (
+        b"export MAIN = (((\"a\" : \"x\") <0.6>) | ((\"aa\" : \"y\") <1>))*;",
+        ("", b""),
+        b"aa\n",
+        b"y\n",
+        b"",
+        0,
+    ),
+    // lines
+    (
+        b"export MAIN = (\"a\" : \"b\") | (\"a\" : (\"c\" <2>));",
+        ("", b""),
+        b"b\n",
+        b"\n",
+        b"line 1: no path\n",
+        1,
+    ),
+    (
+        b"export MAIN = (\"a\" : \"b\") | (\"a\" : (\"c\" <2>));",
+        ("", b""),
+        b"a\n\na\n",
+        b"b\n\nb\n",
+        b"",
+        0,
+    ),
+    (
+        b"export MAIN = (\"a\" : \"b\") | (\"a\" : (\"c\" <2>));",
+        ("", b""),
+        b"a\r\na",
+        b"b\nb\n",
+        b"",
+        0,
+    ),
+    (
+        b"export MAIN = (\"a\" : \"b\") | (\"a\" : (\"c\" <2>));",
+        ("", b""),
+        b"",
+        b"",
+        b"",
+        0,
+    ),
+    (
+        b"export MAIN = \"a\" : \"b\";",
+        ("", b""),
+        b"a\n\nb\n",
+        b"b\n\n\n",
+        b"line 3: no path\n",
+        1,
+    ),
+    (
+        b"export MAIN = \"a\" : \"b\";",
+        ("", b""),
+        b"\n\n",
+        b"\n\n",
+        b"",
+        0,
+    ),
+    (
+        b"export MAIN = \"a\" : \"b\";",
+        ("", b""),
+        b"a\r",
+        b"\n",
+        b"line 1: no path\n",
+        1,
+    ),
+    (
+        b"export MAIN = \"a[13]\" : \"b\";",
+        ("", b""),
+        b"a\r\r\na\r\n",
+        b"b\n\n",
+        b"line 2: no path\n",
+        1,
+    ),
+    (
+        b"export MAIN = \"a\"*;",
+        ("", b""),
+        b"a\0a\naa\n",
+        b"\naa\n",
+        b"line 1: no path\n",
+        1,
+    ),
+    // closures
+    (
+        b"export MAIN = \"a\" (\"\" : \"x\")*;",
+        ("", b""),
+        b"a\n",
+        b"a\n",
+        b"",
+        0,
+    ),
+    (
+        b"export MAIN = (\"\"*)* \"a\" ((\"\" : \"x\")*)*;",
+        ("", b""),
+        b"a\n",
+        b"a\n",
+        b"",
+        0,
+    ),
+    (
+        b"export MAIN = ((\"a\" : \"x\") | (\"aa\" : \"y\"))*;",
+        ("", b""),
+        b"aaa\naa\naaaa\n",
+        b"xy\ny\nyy\n",
+        b"",
+        0,
+    ),
+    (
+        b"export MAIN = (\"a\" | \"ab\") (\"bc\" | \"c\");",
+        ("", b""),
+        b"abc\n",
+        b"abc\n",
+        b"",
+        0,
+    ),
+    (
+        b"export MAIN = \"a\"{2,3};",
+        ("", b""),
+        b"a\naa\naaa\naaaa\n",
+        b"\naa\naaa\n\n",
+        b"line 1: no path\nline 4: no path\n",
+        1,
+    ),
+    (
+        b"export MAIN = (\"a\" : \"b\")+ \"c\"?;",
+        ("", b""),
+        b"c\na\naac\n",
+        b"\nb\nbbc\n",
+        b"line 1: no path\n",
+        1,
+    ),
+    // sides, difference and string files
+    (
+        b"export MAIN = Invert[\"a\" : \"b\"];",
+        ("", b""),
+        b"a\nb\n",
+        b"\na\n",
+        b"line 1: no path\n",
+        1,
+    ),
+    (
+        b"export MAIN = Project[\"a\" : \"b\", 'output'];",
+        ("", b""),
+        b"b\n",
+        b"b\n",
+        b"",
+        0,
+    ),
+    (
+        b"export MAIN = Optimize[(\"a\" : \"b\") | \"c\"];",
+        ("", b""),
+        b"a\nc\n",
+        b"b\nc\n",
+        b"",
+        0,
+    ),
+    (
+        b"export MAIN = (\"a\" | \"b\")* - \"ab\";",
+        ("", b""),
+        b"ab\nba\n",
+        b"\nba\n",
+        b"line 1: no path\n",
+        1,
+    ),
+    (
+        b"export MAIN = StringFile['p.txt'];",
+        ("p.txt", b"one\tun\t0.5\none\tuno\ntwo\n"),
+        b"one\ntwo\n",
+        b"uno\ntwo\n",
+        b"",
+        0,
+    ),
+    // composition
+    (
+        b"export MAIN = (\"a\" : \"b\") @ (\"b\" : \"c\");",
+        ("", b""),
+        b"a\n",
+        b"c\n",
+        b"",
+        0,
+    ),
+    (
+        b"export MAIN = (\"a\" : \"b\" <1>) @ ((\"b\" : \"c\" <2>) | (\"b\" : \"d\" <1.5>));",
+        ("", b""),
+        b"a\n",
+        b"d\n",
+        b"",
+        0,
+    ),
+    (
+        b"export MAIN = (\"a\" : \"\") @ (\"\" : \"x\")*;",
+        ("", b""),
+        b"a\n",
+        b"\n",
+        b"",
+        0,
+    ),
+    // context rewrites
+    (
+        b"s = (\"a\" | \"b\")*; export MAIN = CDRewrite[\"a\" : \"b\", \"a\", \"\", s];",
+        ("", b""),
+        b"aaa\n",
+        b"aba\n",
+        b"",
+        0,
+    ),
+    (
+        b"s = (\"a\" | \"b\")*; export MAIN = CDRewrite[\"a\" : \"b\", \"\", \"\", s, 'ltr', 'opt'];",
+        ("", b""),
+        b"aaa\n",
+        b"aaa\n",
+        b"",
+        0,
+    ),
+    (
+        b"s = (\"a\" | \"b\")*; export MAIN = CDRewrite[\"a\" : \"b\", \"[BOS]\", \"\", s];",
+        ("", b""),
+        b"aa\n",
+        b"ba\n",
+        b"",
+        0,
+    ),
+    (
+        b"s = (\"a\" | \"b\")*; export MAIN = CDRewrite[\"a\" : \"b\", \"\", \"a\", s];",
+        ("", b""),
+        b"aaa\n",
+        b"bba\n",
+        b"",
+        0,
+    ),
+    (
+        b"s = (\"a\" | \"b\")*; export MAIN = CDRewrite[\"a\" : \"b\", \"\", \"[EOS]\", s];",
+        ("", b""),
+        b"aa\n",
+        b"ab\n",
+        b"",
+        0,
+    ),
+    (
+        b"s = (\"a\" | \"b\")*; export MAIN = CDRewrite[\"a\" : \"b\", \"\", \"\", s];",
+        ("", b""),
+        b"ac\n",
+        b"\n",
+        b"line 1: no path\n",
+        1,
+    ),
+    // names, functions and imports
+    (
+        b"import 'lib.grm' as lib; export MAIN = lib.Double[\"a\" : \"b\"];",
+        ("lib.grm", b"func Double[x] { return x x; }"),
+        b"aa\n",
+        b"bb\n",
+        b"",
+        0,
+    ),
+    (
+        b"import 'lib.grm' as lib; export MAIN = lib.digit+;",
+        ("lib.grm", b"export digit = \"0\" : \"zero \";"),
+        b"00\n",
+        b"zero zero \n",
+        b"",
+        0,
+    ),
+    (
+        b"x = \"a\"; func F[x] { y = x x; return y : \"b\"; } export MAIN = F[\"c\"] | x;",
+        ("", b""),
+        b"cc\na\n",
+        b"b\na\n",
+        b"",
+        0,
+    ),
+];
+
+// A grammar, one more file, the text of its refusal.
+const REFUSED: [(&[u8], (&str, &[u8]), &[u8]); 20] = [
+    // reading
+    (
+        b"export MAIN = \"a\" <0.00001>;",
+        ("", b""),
+        b"g.grm: byte 18: bad weight\n",
+    ),
+    (
+        b"export MAIN = \"a",
+        ("", b""),
+        b"g.grm: byte 14: bad lexeme\n",
+    ),
+    (
+        b"x = (((((((((((((((((((((((((((((((((((((((((((((((((((((((((((((((((((((((((((((((((((((((((((((((((((((((((((((((((((((((((((((((((",
+        ("", b""),
+        b"g.grm: byte 132: brackets too deep\n",
+    ),
+    (
+        b"x = \"a\"; export MAIN = ;",
+        ("", b""),
+        b"g.grm: statement 2: syntax\n",
+    ),
+    (
+        b"import 'h.grm' as h;",
+        ("h.grm", b"x = ~;"),
+        b"h.grm: byte 4: bad lexeme\n",
+    ),
+    // names
+    (
+        b"import 'l.grm' as l;",
+        ("", b""),
+        b"g.grm: statement 1: not found l.grm\n",
+    ),
+    (
+        b"export MAIN = x;",
+        ("", b""),
+        b"g.grm: statement 1: unknown name x\n",
+    ),
+    (
+        b"import 'h.grm' as h; export MAIN = h.x;",
+        ("h.grm", b"x = \"a\";"),
+        b"g.grm: statement 2: h.x not exported\n",
+    ),
+    (
+        b"export MAIN = \"a\"; MAIN = \"b\";",
+        ("", b""),
+        b"g.grm: statement 2: MAIN defined twice\n",
+    ),
+    (
+        b"import 'h.grm' as h;",
+        ("h.grm", b"import 'g.grm' as g;"),
+        b"h.grm: statement 1: g.grm imports itself\n",
+    ),
+    (
+        b"func F[x] { return x; } export MAIN = F[\"a\", \"b\"];",
+        ("", b""),
+        b"g.grm: statement 2: wants 1 arguments, has 2\n",
+    ),
+    // kinds and sizes
+    (
+        b"export MAIN = (\"a\" : \"b\") : \"c\";",
+        ("", b""),
+        b"g.grm: statement 1: not an acceptor\n",
+    ),
+    (
+        b"export MAIN = \"a\" - (\"b\" <1>);",
+        ("", b""),
+        b"g.grm: statement 1: weighted\n",
+    ),
+    (
+        b"s = (\"a\" | \"b\")*; export MAIN = CDRewrite[\"a\" : \"b\", \"\", \"\", s, 'sim'];",
+        ("", b""),
+        b"g.grm: statement 2: not supported\n",
+    ),
+    (
+        b"export MAIN = StringFile['p.txt'];",
+        ("p.txt", b"one\na\tb\t1\tc\n"),
+        b"g.grm: statement 1: bad pair in p.txt line 2\n",
+    ),
+    (
+        b"a = \"x\"{9999,9999}; export MAIN = a{9999,9999};",
+        ("", b""),
+        b"g.grm: statement 2: too large\n",
+    ),
+    // the rule: its export is looked at before its marks, and these before its rewrites
+    (
+        b"MAIN = \"[BOS]\"; export OTHER = \"a\";",
+        ("", b""),
+        b"setup: no rule MAIN in g.grm\n",
+    ),
+    (
+        b"export MAIN = \"[BOS]\" | \"a\";",
+        ("", b""),
+        b"setup: rule MAIN in g.grm holds a mark\n",
+    ),
+    (
+        b"s = (\"a\" | \"b\")*; export MAIN = CDRewrite[\"\" : \"b\", \"\", \"\", s];",
+        ("", b""),
+        b"setup: rule MAIN rewrites the empty text\n",
+    ),
+    (
+        b"s = (\"a\" | \"b\")*; export MAIN = \"[EOS]\" | CDRewrite[\"\" : \"b\", \"\", \"\", s];",
+        ("", b""),
+        b"setup: rule MAIN in g.grm holds a mark\n",
+    ),
+];
+
+// A setup, the text of its refusal.
+const SETUPS: [(&[u8], &[u8]); 8] = [
+    (b"", b"setup: tokenizer_grammar is missing\n"),
+    (
+        b"tokenizer_grammar: \"g.grm\"\n",
+        b"setup: tokenizer_rule is missing\n",
+    ),
+    (
+        b"# one\n\ntokenizer_grammar \"g.grm\"\n",
+        b"setup: line 3 not understood\n",
+    ),
+    (
+        b"tokenizer_grammar: \"g.grm\"\ntokenizer_grammar: \"g.grm\"\n",
+        b"setup: line 2 repeats a key\n",
+    ),
+    (
+        b"tokenizer_grammar: \"no.grm\"\ntokenizer_rule: \"A\"\ntokenizer_rule: \"B\"\n",
+        b"not yet read\n",
+    ),
+    (
+        b"tokenizer_rule: \"A\"\ntokenizer_rule: \"B\"\n",
+        b"setup: tokenizer_grammar is missing\n",
+    ),
+    (
+        b"tokenizer_grammar: \"no.grm\"\ntokenizer_rule: \"MAIN\"\n",
+        b"no.grm: statement 0: not found no.grm\n",
+    ),
+    (
+        b"tokenizer_grammar: \"g.grm\"\ntokenizer_rule: \"OTHER\"\n",
+        b"setup: no rule OTHER in g.grm\n",
+    ),
+];
+
 #[test]
 fn lines_are_spoken(rt: HostRuntime) -> Result<(), Fail> {
-    // a grammar, an input, the output, the errors, the status
-    let cases: [(&[u8], &[u8], &[u8], &[u8], u8); 40] = [
-        // one pair
-        (
-            b"export MAIN = \"a\" : \"b\";",
-            b"a\n\nb\n",
-            b"b\n\n\n",
-            b"line 3: no path\n",
-            1,
-        ),
-        (
-            b"export MAIN = \"a\" : \"b\";",
-            b"a\n\na\n",
-            b"b\n\nb\n",
-            b"",
-            0,
-        ),
-        (
-            b"export MAIN = \"a\" : \"b\";",
-            b"a\r\na",
-            b"b\nb\n",
-            b"",
-            0,
-        ),
-        (b"export MAIN = \"a\" : \"b\";", b"", b"", b"", 0),
-        (b"export MAIN = \"a\" : \"b\";", b"\n\n", b"\n\n", b"", 0),
-        (b"export MAIN = \"a\" : \"\";", b"a\n", b"\n", b"", 0),
-        // the shorter output, and then the lesser bytes
-        (
-            b"export MAIN = (\"a\" : \"zz\") | (\"a\" : \"y\");",
-            b"a\n",
-            b"y\n",
-            b"",
-            0,
-        ),
-        (
-            b"export MAIN = (\"a\" : \"y\") | (\"a\" : \"x\");",
-            b"a\n",
-            b"x\n",
-            b"",
-            0,
-        ),
-        (
-            b"export MAIN = (\"a\" : \"b\") | (\"a\" : \"c\");",
-            b"a\nb\n",
-            b"b\n\n",
-            b"line 2: no path\n",
-            1,
-        ),
-        (
-            b"export MAIN = (\"a\" : \"b\") | (\"a\" : \"aa\");",
-            b"a\n",
-            b"b\n",
-            b"",
-            0,
-        ),
-        (
-            b"export MAIN = (\"a\" : \"ba\") | (\"a\" : \"ab\");",
-            b"a\n",
-            b"ab\n",
-            b"",
-            0,
-        ),
-        (
-            b"export MAIN = (\"a\" : \"ba\") | (\"a\" : \"ab\") | (\"a\" : \"b\");",
-            b"a\n",
-            b"b\n",
-            b"",
-            0,
-        ),
-        (
-            b"export MAIN = ((\"a\" : \"x\") | (\"aa\" : \"y\"))*;",
-            b"aaa\naa\naaaa\n",
-            b"xy\ny\nyy\n",
-            b"",
-            0,
-        ),
-        // stars of what reads nothing
-        (
-            b"export MAIN = \"a\" (\"\" : \"x\")*;",
-            b"a\n",
-            b"a\n",
-            b"",
-            0,
-        ),
-        (
-            b"export MAIN = (\"\" : \"x\")*;",
-            b"\na\n",
-            b"\n\n",
-            b"line 2: no path\n",
-            1,
-        ),
-        (
-            b"export MAIN = (\"\"*)*;",
-            b"a\n\n",
-            b"\n\n",
-            b"line 1: no path\n",
-            1,
-        ),
-        (
-            b"export MAIN = (\"\"*)* \"a\" ((\"\" : \"x\")*)*;",
-            b"a\n",
-            b"a\n",
-            b"",
-            0,
-        ),
-        (
-            b"export MAIN = (\"\" | \"\" | (\"\" : \"x\"))* \"a\";",
-            b"a\n",
-            b"a\n",
-            b"",
-            0,
-        ),
-        // unions, chains and stars
-        (
-            b"export MAIN = \"a\" | \"a\" | \"a\";",
-            b"a\nb\n",
-            b"a\n\n",
-            b"line 2: no path\n",
-            1,
-        ),
-        (
-            b"export MAIN = \"a\" (\"b\" : \"\") \"c\";",
-            b"abc\n",
-            b"ac\n",
-            b"",
-            0,
-        ),
-        (
-            b"export MAIN = ((\"a\" | \"b\") (\"x\" : \"y\"))*;",
-            b"axbx\nax\na\n",
-            b"ayby\nay\n\n",
-            b"line 3: no path\n",
-            1,
-        ),
-        (
-            b"export MAIN = (\"a\" : \"b\")**;",
-            b"aaa",
-            b"bbb\n",
-            b"",
-            0,
-        ),
-        (
-            b"export MAIN = (\"a\" | \"ab\") (\"bc\" | \"c\");",
-            b"abc\n",
-            b"abc\n",
-            b"",
-            0,
-        ),
-        (
-            b"export MAIN = (\"ab\" : \"1\") | (\"ac\" : \"2\") | (\"a\" : \"3\");",
-            b"ab\nac\na\nad\n",
-            b"1\n2\n3\n\n",
-            b"line 4: no path\n",
-            1,
-        ),
-        (
-            b"export MAIN = \"a\" : \"b\" | \"c\" : \"d\";",
-            b"a\nc\n",
-            b"b\nd\n",
-            b"",
-            0,
-        ),
-        (
-            b"export MAIN = \"a\" \"b\" : \"c\" \"d\";",
-            b"ab\na\n",
-            b"cd\n\n",
-            b"line 2: no path\n",
-            1,
-        ),
-        (
-            b"export MAIN = (\"a\" | \"b\") : (\"yy\" | \"x\");",
-            b"b\n",
-            b"x\n",
-            b"",
-            0,
-        ),
-        (b"export MAIN = \"a\"* : \"b\"*;", b"aa\n", b"\n", b"", 0),
-        (
-            b"export MAIN = \"a\"*;",
-            b"aa\nab\n",
-            b"aa\n\n",
-            b"line 2: no path\n",
-            1,
-        ),
-        (
-            b"\n export\nMAIN = \"a\"\n:\n\"b\" ;\n\n",
-            b"a\n",
-            b"b\n",
-            b"",
-            0,
-        ),
-        // bytes
-        (
-            b"export MAIN = \"a\"*;",
-            b"a\0a\naa\n",
-            b"\naa\n",
-            b"line 1: no path\n",
-            1,
-        ),
-        (
-            b"export MAIN = \"a\" : \"b\";",
-            b"a\r",
-            b"\n",
-            b"line 1: no path\n",
-            1,
-        ),
-        (b"export MAIN = \"a\r\" : \"b\";", b"a\r", b"b\n", b"", 0),
-        (
-            b"export MAIN = \"a\r\" : \"b\";",
-            b"a\r\r\na\r\n",
-            b"b\n\n",
-            b"line 2: no path\n",
-            1,
-        ),
-        (
-            b"export MAIN = \"a\" : \"\r\t\xff\";",
-            b"a\n",
-            b"\r\t\xff\n",
-            b"",
-            0,
-        ),
-        (
-            b"export MAIN = \"\xc3\xa4\" : \"ae\";",
-            b"\xc3\xa4\n",
-            b"ae\n",
-            b"",
-            0,
-        ),
-        (b"export MAIN = \"#\" : \"n\";", b"#\n", b"n\n", b"", 0),
-        (
-            b"export MAIN = \" \t \" : \"w\";",
-            b" \t \n \n",
-            b"w\n\n",
-            b"line 2: no path\n",
-            1,
-        ),
-        // what isn't read yet
-        (
-            b"export MAIN = \"a\" <1>;",
-            b"a\n",
-            b"",
-            b"not yet read\n",
-            3,
-        ),
-        (b"export OTHER = \"a\";", b"a\n", b"", b"not yet read\n", 3),
-    ];
-    for (grammar, input, out, err, status) in cases {
-        let left = run_over(&rt, rt.alloc(), grammar, input)?;
-        assert_eq!(rt; left.out.bytes(), out);
+    for (grammar, other, input, out, err, status) in SPOKEN {
+        let left = run_files(&rt, rt.alloc(), SETUP, grammar, other, input)?;
         assert_eq!(rt; left.err.bytes(), err);
+        assert_eq!(rt; left.out.bytes(), out);
         assert_eq!(rt; left.status, status);
     }
     Ok(())
 }
 
 #[test]
+fn grammars_are_refused(rt: HostRuntime) -> Result<(), Fail> {
+    for (grammar, other, err) in REFUSED {
+        let left = run_files(&rt, rt.alloc(), SETUP, grammar, other, b"a\n")?;
+        assert_eq!(rt; left.err.bytes(), err);
+        assert_eq!(rt; left.out.bytes(), b"".as_slice());
+        assert_eq!(rt; left.status, 3);
+    }
+    Ok(())
+}
+
+#[test]
+fn setups_are_refused(rt: HostRuntime) -> Result<(), Fail> {
+    for (setup, err) in SETUPS {
+        let left = run_files(
+            &rt,
+            rt.alloc(),
+            setup,
+            b"export MAIN = \"a\";",
+            ("", b""),
+            b"a\n",
+        )?;
+        assert_eq!(rt; left.err.bytes(), err);
+        assert_eq!(rt; left.out.bytes(), b"".as_slice());
+        assert_eq!(rt; left.status, 3);
+    }
+    Ok(())
+}
+
+#[test]
+fn a_setup_that_is_not_there_is_refused(rt: HostRuntime) -> Result<(), Fail> {
+    let files: [(&str, &[u8]); 1] = [("g.grm", b"export MAIN = \"a\";")];
+    let left = run_with(
+        &rt,
+        rt.alloc(),
+        &COMMAND,
+        &files,
+        b"a\n",
+        &[&[], &[], &[], &[]],
+    )?;
+    assert_eq!(rt; left.err.bytes(), b"setup: not found\n".as_slice());
+    assert_eq!(rt; left.status, 3);
+    Ok(())
+}
+
+/// The 33 files of a chain of imports, and the setup.
+fn chain(alloc: Global) -> Result<Vec<(Name, Vec<u8>)>, AllocError> {
+    let mut files = Vec::new(alloc);
+    files.push((Name::new(alloc, b"s")?, Vec::from_slice(alloc, SETUP)?))?;
+    files.push((
+        Name::new(alloc, b"g.grm")?,
+        Vec::from_slice(alloc, b"import '2' as a;")?,
+    ))?;
+    for number in 2..33u64 {
+        let next = number + 1;
+        let name = format!(in alloc; "{number}")?;
+        let text = format!(in alloc; "import '{next}' as a;")?;
+        files.push((
+            Name::new(alloc, name.as_bytes())?,
+            Vec::from_slice(alloc, text.as_bytes())?,
+        ))?;
+    }
+    Ok(files)
+}
+
+#[test]
+fn a_chain_of_33_files_is_refused(rt: HostRuntime) -> Result<(), Fail> {
+    let alloc = rt.alloc();
+    let mut shelf = MemShelf::new(alloc, chain(alloc)?, Vec::new(alloc));
+    let mut source = MemSource::new(Vec::new(alloc), 1, Vec::new(alloc));
+    let mut out = MemSink::new(alloc, 1, Vec::new(alloc));
+    let mut err = MemSink::new(alloc, 5, Vec::new(alloc));
+    let words = words(alloc, &COMMAND)?;
+    let status = speak(
+        &rt,
+        alloc,
+        &words,
+        &mut shelf,
+        &mut source,
+        &mut out,
+        &mut err,
+        &NoWatch,
+    );
+    assert_eq!(rt;
+        err.bytes(),
+        b"32: statement 1: imports deeper than 32\n".as_slice()
+    );
+    assert_eq!(rt; status, 3);
+    Ok(())
+}
+
+#[test]
 fn a_long_line_is_searched(rt: HostRuntime) -> Result<(), Fail> {
     let line = vec![in rt.alloc(); b'a'; 16_385]?;
-    let left = run_over(&rt, rt.alloc(), b"export MAIN = \"a\" : \"b\";", &line)?;
+    let left = run_files(
+        &rt,
+        rt.alloc(),
+        SETUP,
+        b"export MAIN = \"a\" : \"b\";",
+        ("", b""),
+        &line,
+    )?;
     assert_eq!(rt; left.out.bytes(), b"\n".as_slice());
     assert_eq!(rt; left.err.bytes(), b"line 1: no path\n".as_slice());
     assert_eq!(rt; left.status, 1);
@@ -371,77 +688,6 @@ fn wrong_words_are_refused(rt: HostRuntime) -> Result<(), Fail> {
         assert_eq!(rt; left.status, 2);
         assert_eq!(rt; left.out.bytes(), b"".as_slice());
         assert_eq!(rt; left.err.bytes(), b"bad arguments\n".as_slice());
-    }
-    Ok(())
-}
-
-#[test]
-fn what_is_not_read_is_refused(rt: HostRuntime) -> Result<(), Fail> {
-    let grammar: &[u8] = b"export MAIN = \"a\";";
-    let cases: [[(&str, &[u8]); 2]; 11] = [
-        [("t", SETUP), ("g.grm", grammar)],
-        [("s", SETUP), ("h.grm", grammar)],
-        [("s", b""), ("g.grm", grammar)],
-        [
-            (
-                "s",
-                b"tokenizer_grammar: \"g.grm\"\ntokenizer_rule: \"MAIN\"",
-            ),
-            ("g.grm", grammar),
-        ],
-        [
-            (
-                "s",
-                b"tokenizer_grammar:  \"g.grm\"\ntokenizer_rule: \"MAIN\"\n",
-            ),
-            ("g.grm", grammar),
-        ],
-        [
-            (
-                "s",
-                b"tokenizer_grammar: \"g.grm\"\r\ntokenizer_rule: \"MAIN\"\r\n",
-            ),
-            ("g.grm", grammar),
-        ],
-        [
-            (
-                "s",
-                b"tokenizer_rule: \"MAIN\"\ntokenizer_grammar: \"g.grm\"\n",
-            ),
-            ("g.grm", grammar),
-        ],
-        [
-            (
-                "s",
-                b"tokenizer_grammar: \"g.grm\"\ntokenizer_rule: \"MAIN\"\n\n",
-            ),
-            ("g.grm", grammar),
-        ],
-        [
-            ("s", b"tokenizer_grammar: \"g.grm\"\ntokenizer_rule: \"\"\n"),
-            ("g.grm", grammar),
-        ],
-        [
-            (
-                "s",
-                b"tokenizer_grammar: \"g.grm\"\ntokenizer_rule: \"MA\\IN\"\n",
-            ),
-            ("g.grm", grammar),
-        ],
-        [("s", SETUP), ("g.grm", b"MAIN = \"a\";")],
-    ];
-    for files in cases {
-        let left = run_with(
-            &rt,
-            rt.alloc(),
-            &COMMAND,
-            &files,
-            b"a\n",
-            &[&[], &[], &[], &[]],
-        )?;
-        assert_eq!(rt; left.status, 3);
-        assert_eq!(rt; left.out.bytes(), b"".as_slice());
-        assert_eq!(rt; left.err.bytes(), b"not yet read\n".as_slice());
     }
     Ok(())
 }
@@ -493,20 +739,6 @@ fn a_refusal_that_is_not_told_keeps_its_status(rt: HostRuntime) -> Result<(), Fa
     )?;
     assert_eq!(rt; left.status, 2);
     assert_eq!(rt; left.err.bytes(), b"bad a".as_slice());
-    Ok(())
-}
-
-#[test]
-fn a_setup_is_read(rt: HostRuntime) -> Result<(), Fail> {
-    let alloc = rt.alloc();
-    let setup = read_setup(alloc, SETUP, Need::Classifier)?;
-    assert_eq!(rt; setup.tokenizer.bytes(), b"g.grm".as_slice());
-    assert_eq!(rt; setup.tokenizer_rules.len(), 1);
-    assert_eq!(rt; setup.tokenizer_rules[0].bytes(), b"MAIN".as_slice());
-    assert!(rt; setup.verbalizer.is_none());
-    assert!(rt; setup.verbalizer_rules.is_empty());
-    let refused = read_setup(alloc, b"x\n", Need::Both);
-    assert!(rt; matches!(&refused, Err(SetupFault::NotYet)));
     Ok(())
 }
 

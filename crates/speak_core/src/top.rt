@@ -4,12 +4,12 @@ ghost use Rattle.std.specs.Prelude.{◌≡◌, ◌⊎◌, ◌≤◌, ◌^◌, If
 ghost use Rattle.std.specs.Io.KnownBytes.{IsAtEnd};
 ghost use Rattle.norm_base.specs.Bytes.{AppendsPrefix};
 ghost use Rattle.weighted_relations.specs.Expressions.{Expression};
-ghost use Rattle.speak_core.specs.Accepted.{Accepted, NotRead};
+ghost use Rattle.speak_core.specs.Accepted.{Accepted, Asks, IsRefusal, refused};
 ghost use Rattle.speak_core.specs.Commands.{setup_name};
 ghost use Rattle.speak_core.specs.Inputs.{GaveMore};
 ghost use Rattle.speak_core.specs.Owed.{Owed, SpeaksAll};
 ghost use Rattle.speak_core.specs.Stops.{IsEnd, IsStatus, NoneRose, SomeRose, text_of, last_text};
-ghost use Rattle.speak_core.specs.declared.stop.Stop.TheVariants.{Words, NotRead as NotReadStop, Outside, Memory, TooLong};
+ghost use Rattle.speak_core.specs.declared.stop.Stop.TheVariants.{Words, Outside, Memory, TooLong};
 ghost use Rattle.speak_core.specs.Told.{TellsLast, TellsShort, TellsStop, TellsTwice};
 
 use crate::outside::put;
@@ -22,12 +22,13 @@ use std::thread::Threads;
 
 /// Speaks the lines of the source by the rule that the words and the files of the shelf name, and answers the status.
 ///
-/// The words after the program's name are `--setup`, the name of a setup, `--mode` and `classify`. The whole input is read, of
-/// at most 268,435,456 bytes. Then `out` gets for each line the output of its least reading and a LF, or the LF alone where it
-/// has no reading, and `err` gets the number of each such line.
+/// The words after the program's name are `--setup`, the name of a setup, `--mode` and `classify`. The setup's grammar is linked
+/// with all that it imports, and its one rule is built. Then the whole input is read, of at most 268,435,456 bytes, and `out`
+/// gets for each line the output of its least reading and a LF, or the LF alone where it has no reading, and `err` gets the
+/// number of each such line.
 ///
-/// Status 0: each line was read. 1: some line has no reading. 2: the words are wrong. 3: the setup, its grammar or its rule
-/// isn't read. 4: a device failed. 5: memory is wanting. 6: the input is too long. From 2 on, the cause is told to `err` last.
+/// Status 0: each line was read. 1: some line has no reading. 2: the words are wrong. 3: the setup, a grammar or the rule is
+/// refused. 4: a device failed. 5: memory is wanting. 6: the input is too long. From 2 on, the cause is told to `err` last.
 ///
 /// The watch isn't told of any line yet.
 pub fn speak<R: Threads + Sync, H: Shelf, S: Source, O: Sink, E: Sink, W: Watch + Sync>(
@@ -45,8 +46,8 @@ pub fn speak<R: Threads + Sync, H: Shelf, S: Source, O: Sink, E: Sink, W: Watch 
     // The cause of each status.
     ensures wrong_words { result ≡ 2 → setup_name words.now ≡ None }
     ensures only_wrong_words { setup_name words.now ≡ None → (result ≡ 2) ⊎ (result ≡ 5) }
-    ensures not_read { result ≡ 3 → IfSome (H.files shelf.old) (λ files. NotRead words.now files) }
-    ensures only_not_read { IfSome (H.files shelf.old) (λ files. NotRead words.now files → (result ≡ 3) ⊎ ((result ≡ 4) ⊎ (result ≡ 5))) }
+    ensures refused { result ≡ 3 → IfSome (H.files shelf.old) (λ files. (text : List ℕ) × IsRefusal words.now files text) }
+    ensures only_refused { IfSome (H.files shelf.old) (λ files. (text : List ℕ) → Asks words.now files (refused text) → (result ≡ 3) ⊎ ((result ≡ 4) ⊎ (result ≡ 5))) }
     ensures outside { result ≡ 4 → SomeRose (H.faults shelf.old) (H.faults shelf.new) (S.faults source.old) (S.faults source.new)
         (O.faults out.old) (O.faults out.new) (E.faults err.old) (E.faults err.new) }
     ensures too_long { result ≡ 6 → IfSome (S.left source.old) (λ before. IsSomeAnd (S.left source.new) (λ now. GaveMore before now)) }
@@ -73,7 +74,8 @@ pub fn speak<R: Threads + Sync, H: Shelf, S: Source, O: Sink, E: Sink, W: Watch 
 
     // What is told last.
     ensures told_words { result ≡ 2 → TellsLast (E.faults err.old) (E.faults err.new) (E.held err.old) (E.held err.new) [] (text_of Words) }
-    ensures told_not_read { result ≡ 3 → TellsLast (E.faults err.old) (E.faults err.new) (E.held err.old) (E.held err.new) [] (text_of NotReadStop) }
+    ensures told_refused { result ≡ 3 → IfSome (H.files shelf.old) (λ files. (text : List ℕ) → Asks words.now files (refused text)
+        → TellsLast (E.faults err.old) (E.faults err.new) (E.held err.old) (E.held err.new) [] text) }
     ensures told_outside { result ≡ 4 → IfSome (H.files shelf.old) (λ files. IfSome (S.left source.old) (λ input. (output faults : List ℕ)
         → Owed words.now files input output faults
         → TellsLast (E.faults err.old) (E.faults err.new) (E.held err.old) (E.held err.new) faults (text_of Outside))) }
@@ -105,23 +107,23 @@ fn finish<E: Sink>(ended: Result<bool, Stop>, err: &mut E) -> u8
     match ended {
         Ok(true) => 0,
         Ok(false) => 1,
-        Err(stop) => tell(err, stop),
+        Err(stop) => tell(err, &stop),
     }
 }
 
 /// Tells why a run stopped, and answers its status; that of want of memory where memory is wanting for the text.
-fn tell<E: Sink>(err: &mut E, stop: Stop) -> u8
-    ensures status { IsStatus result stop }
-    ensures told { TellsStop result (E.faults err.old) (E.faults err.new) (E.held err.old) (E.held err.new) stop }
-    ensures short { result ≡ 5 → TellsTwice (E.held err.old) (E.held err.new) (last_text stop) }
+fn tell<E: Sink>(err: &mut E, stop: &Stop) -> u8
+    ensures status { IsStatus result stop.now }
+    ensures told { TellsStop result (E.faults err.old) (E.faults err.new) (E.held err.old) (E.held err.new) stop.now }
+    ensures short { result ≡ 5 → TellsTwice (E.held err.old) (E.held err.new) (last_text stop.now) }
     ensures later { E.faults err.old ≤ E.faults err.new }
 {
-    if stop == Stop::Memory {
-        return tell_memory(err);
-    }
-    match put(err, stop.text()) {
-        Err(Stop::Memory) => tell_memory(err),
-        _ => stop.status(),
+    match stop {
+        Stop::Memory => tell_memory(err),
+        _ => match put(err, stop.text()) {
+            Err(Stop::Memory) => tell_memory(err),
+            _ => stop.status(),
+        },
     }
 }
 

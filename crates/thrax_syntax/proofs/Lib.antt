@@ -1,7 +1,6 @@
-pub mod Bytes
-pub mod Chains
-pub mod Crossing
-pub mod Exits
-pub mod Files
-pub mod LexingLemmas
-pub mod Steps
+pub mod Keeping
+pub mod Marks
+pub mod Parts
+pub mod Stating
+pub mod Taking
+pub mod Whole

@@ -1,7 +1,6 @@
-pub mod Crossings
+pub mod FileOutcomes
+pub mod Files
 pub mod Grammar
-pub mod Lexing
-pub mod Many
 pub mod Outcomes
-pub mod ThinGrammar
+pub mod Statements
 pub mod Trees

@@ -1,75 +1,83 @@
--- What the calls of the reader answer: what was read is the one that there is, or there is none, or memory ran out.
-use Rattle.std.specs.Prelude.{[], map, ◌≡◌, ℕ, List, Result, Ok, Err, Option, Some, None}
-use Rattle.thrax_syntax.specs.Trees.{TreeTerm, StatementTerm, tree_term}
-use Rattle.thrax_syntax.specs.declared.spelled.Spelled.{Spelled}
-use Rattle.thrax_syntax.specs.declared.spelled.Chain.{Chain}
-use Rattle.thrax_syntax.specs.Lexing.{Lex, Piece}
-use Rattle.thrax_syntax.specs.Grammar.{Ends}
-use Rattle.thrax_syntax.specs.Many.{Longest, kept}
-use Rattle.thrax_syntax.specs.declared.fault.ReadFault.{ReadFault}
-use Rattle.thrax_syntax.specs.declared.fault.ReadFault.TheVariants.{NotYet, Memory}
+-- What the parts of the reader answer: what was read is the one that there is, or there is none, or memory ran out.
+use Rattle.std.specs.Prelude.{◌≡◌, ◌≤◌, ℕ, Bool, true, false, List, [], ◌∷◌, map, Result, Ok, Err}
+use Rattle.thrax_lexer.specs.Answers.{Takes}
+use Rattle.thrax_lexer.specs.Lexemes.{Lex, word, keyword, number, weight, string, quoted, symbol, lex_of}
+use Rattle.thrax_lexer.specs.declared.bytes.Symbol.{Symbol}
+use Rattle.thrax_lexer.specs.declared.bytes.Symbol.TheVariants.{Equals, Semicolon, Comma, Bar, Star, Plus, Question, OpenBrace, CloseBrace, Minus, Colon, At, OpenParen, CloseParen, OpenBracket, CloseBracket, Dot}
+use Rattle.std.specs.Borrow.{Bor}
+use Rattle.thrax_lexer.specs.declared.lexemes.Lexeme.{Lexeme}
+use Rattle.thrax_syntax.specs.Trees.{TreeTerm, tree_term}
+use Rattle.thrax_syntax.specs.declared.tree.Tree.{Tree}
+use Rattle.thrax_syntax.specs.declared.operators.Operator.{Operator}
+use Rattle.thrax_syntax.specs.declared.operators.Operator.TheVariants.{Composition, Crossing, Difference}
+use Rattle.thrax_syntax.specs.declared.stop.Stop.{Stop}
+use Rattle.thrax_syntax.specs.declared.stop.Stop.TheVariants.{Syntax, Memory}
 
-abbrev pub spelled_term : Spelled → TreeTerm
-spelled_term s = tree_term s.tree
+-- an operator's operands hold together more than the operator does
+abbrev pub level : Operator → ℕ
+level Composition = 1
+level Crossing = 2
+level Difference = 3
 
-abbrev pub chain_terms : Chain → List TreeTerm
-chain_terms c = map tree_term c.members.items
+-- how tightly a symbol holds to what is before it
+abbrev pub holds : Symbol → ℕ
+holds Bar = 1
+holds At = 2
+holds Colon = 3
+holds Minus = 4
+holds OpenParen = 6
+holds Star = 7
+holds Plus = 7
+holds Question = 7
+holds OpenBrace = 7
+holds OpenBracket = 8
+holds Dot = 9
+holds Equals = 0
+holds Semicolon = 0
+holds Comma = 0
+holds CloseBrace = 0
+holds CloseParen = 0
+holds CloseBracket = 0
+
+abbrev pub binds : Lex → ℕ
+binds (word x) = 6
+binds (keyword k) = 0
+binds (number n) = 0
+binds (weight w) = 5
+binds (string x) = 6
+binds (quoted x) = 0
+binds (symbol s) = holds s
+
+-- what comes next is no more of a part
+abbrev pub Ends : ℕ → List Lex → Type 0
+Ends k [] = Unit {0}
+Ends k (x ∷ xs) = binds x ≤ k
+
+-- an atom begins here
+abbrev pub begins : List Lex → Bool
+begins (word x ∷ xs) = true
+begins (string x ∷ xs) = true
+begins (symbol OpenParen ∷ xs) = true
+begins xs = false
 
 -- P has the tree t before rest, and nothing else before an end of its part
 pub record Reads (k : ℕ) (P : TreeTerm → List Lex → Type 0) (t : TreeTerm) (rest : List Lex) : Type 0 where
   pub found : P t rest
   pub only : (u : TreeTerm) (d : List Lex) → P u d → Ends k d → (u ≡ t) × (d ≡ rest)
 
-abbrev pub Fails : ℕ → (TreeTerm → List Lex → Type 0) → ReadFault → Type 0
+abbrev pub Fails : ℕ → (TreeTerm → List Lex → Type 0) → Stop → Type 0
 Fails k P Memory = Unit {0}
-Fails k P NotYet = (u : TreeTerm) (d : List Lex) → P u d → Ends k d → ⊥
+Fails k P Syntax = (u : TreeTerm) (d : List Lex) → P u d → Ends k d → ⊥
 
-abbrev pub Answers : {X : Type 0} → (X → TreeTerm) → (X → List Lex) → ℕ → (TreeTerm → List Lex → Type 0) → Result X ReadFault → Type 0
-Answers tree rest k P (Ok x) = Reads k P (tree x) (rest x)
-Answers tree rest k P (Err e) = Fails k P e
+abbrev pub Answers : ℕ → (TreeTerm → List Lex → Type 0) → Result (Tree × Bor (List Lexeme)) Stop → Type 0
+Answers k P (Ok x) = Reads k P (tree_term x.0) (map lex_of x.1.now)
+Answers k P (Err e) = Fails k P e
 
 -- the same, where P has one way by itself
-pub record Takes {T R : Type 0} (P : T → R → Type 0) (t : T) (rest : R) : Type 0 where
-  pub found : P t rest
-  pub only : (u : T) (d : R) → P u d → (u ≡ t) × (d ≡ rest)
-
-abbrev pub Misses : {T R : Type 0} → (T → R → Type 0) → ReadFault → Type 0
+abbrev pub Misses : {T R : Type 0} → (T → R → Type 0) → Stop → Type 0
 Misses P Memory = Unit {0}
-Misses {T} {R} P NotYet = (u : T) (d : R) → P u d → ⊥
+Misses {T} {R} P Syntax = (u : T) (d : R) → P u d → ⊥
 
-abbrev pub Gives : {X T R : Type 0} → (X → T) → (X → R) → (T → R → Type 0) → Result X ReadFault → Type 0
+abbrev pub Gives : {X T R : Type 0} → (X → T) → (X → R) → (T → R → Type 0) → Result X Stop → Type 0
 Gives value rest P (Ok x) = Takes P (value x) (rest x)
 Gives value rest P (Err e) = Misses P e
-
--- the next step, or that there is none
-abbrev pub Next : {X T R : Type 0} → (X → T) → (X → R) → (T → R → Type 0) → Option X → Type 0
-Next value rest P (Some x) = Takes P (value x) (rest x)
-Next {X} {T} {R} value rest P None = (u : T) (d : R) → P u d → ⊥
-
--- the lexemes of the longest list of pieces
-abbrev pub LexedTo : List ℕ → List Lex → List ℕ → Type 0
-LexedTo bytes found rest = (ps : List (Option Lex)) × Longest Piece bytes ps rest × (kept ps ≡ found)
-
-abbrev pub FailsToLex : List ℕ → ReadFault → Type 0
-FailsToLex bytes Memory = Unit {0}
-FailsToLex bytes NotYet = (found : List Lex) × (rest : List ℕ) × LexedTo bytes found rest × (rest ≡ [] → ⊥)
-
--- the lexemes of a whole text
-abbrev pub LexesAs : {X : Type 0} → (X → List Lex) → List ℕ → Result X ReadFault → Type 0
-LexesAs value bytes (Ok v) = LexedTo bytes (value v) []
-LexesAs value bytes (Err e) = FailsToLex bytes e
-
-abbrev pub HasNone : {T : Type 0} → (T → Type 0) → ReadFault → Type 0
-HasNone P Memory = Unit {0}
-HasNone {T} P NotYet = (u : T) → P u → ⊥
-
--- the answer is the one value of which P holds, or there is none
-abbrev pub Sole : {X T : Type 0} → (X → T) → (T → Type 0) → Result X ReadFault → Type 0
-Sole {X} {T} value P (Ok x) = P (value x) × ((u : T) → P u → u ≡ value x)
-Sole value P (Err e) = HasNone P e
-
--- the answer is this file, or memory ran out
-abbrev pub IsFile : {X : Type 0} → (X → List StatementTerm) → List StatementTerm → Result X ReadFault → Type 0
-IsFile value file (Ok v) = file ≡ value v
-IsFile value file (Err Memory) = Unit {0}
-IsFile value file (Err NotYet) = ⊥

@@ -1,152 +1,232 @@
 use crate::{File, ReadFault, Statement, Tree, read_file};
+use norm_base::Name;
 use std::alloc::{AllocError, Global};
 
-/// Writes a tree with its chains in square brackets: `[| .. ..]`, `[& .. ..]` and `[: .. ..]`.
+fn show_labels(labels: &[u16], out: &mut Vec<u8>) -> Result<(), AllocError> {
+    out.push(b'"')?;
+    for label in labels {
+        match *label {
+            256 => out.push(b'^')?,
+            257 => out.push(b'$')?,
+            byte => out.push(u8::try_from(byte).unwrap_or(b'?'))?,
+        }
+    }
+    out.push(b'"')?;
+    Ok(())
+}
+
+fn show_number(number: u32, out: &mut Vec<u8>) -> Result<(), AllocError> {
+    let mut digits = [b'0'; 10];
+    let mut left = number;
+    for place in digits.iter_mut() {
+        *place = b'0' + u8::try_from(left % 10).unwrap_or(0);
+        left /= 10;
+    }
+    let mut begun = false;
+    for digit in digits.iter().rev() {
+        begun = begun || *digit != b'0';
+        if begun {
+            out.push(*digit)?;
+        }
+    }
+    if !begun {
+        out.push(b'0')?;
+    }
+    Ok(())
+}
+
+fn show_dotted(alias: &Name, name: &Name, out: &mut Vec<u8>) -> Result<(), AllocError> {
+    out.extend_from_slice(alias.bytes())?;
+    out.push(b'.')?;
+    out.extend_from_slice(name.bytes())?;
+    Ok(())
+}
+
+/// Writes a tree: operations as `(SIGN member member ..)`, marks of repetition behind the tree, weights before it.
 fn show(tree: &Tree, out: &mut Vec<u8>) -> Result<(), AllocError> {
     match tree {
-        Tree::Text(labels) => {
-            out.push(b'"')?;
-            for label in labels {
-                out.push(u8::try_from(*label).unwrap_or(b'?'))?;
+        Tree::Text(labels) => show_labels(labels, out)?,
+        Tree::Quoted(bytes) => {
+            out.push(b'\'')?;
+            out.extend_from_slice(bytes.bytes())?;
+            out.push(b'\'')?;
+        }
+        Tree::Use(name) => out.extend_from_slice(name.bytes())?,
+        Tree::Member(alias, name) => show_dotted(alias, name, out)?,
+        Tree::Call(name, arguments) => {
+            out.extend_from_slice(name.bytes())?;
+            out.push(b'[')?;
+            for argument in arguments {
+                show(argument, out)?;
+                out.push(b';')?;
             }
-            out.push(b'"')?;
+            out.push(b']')?;
+        }
+        Tree::CallMember(alias, name, arguments) => {
+            show_dotted(alias, name, out)?;
+            out.push(b'[')?;
+            for argument in arguments {
+                show(argument, out)?;
+                out.push(b';')?;
+            }
+            out.push(b']')?;
         }
         Tree::Union(members) => {
-            out.extend_from_slice(b"[|")?;
+            out.extend_from_slice(b"(|")?;
             for member in members {
                 out.push(b' ')?;
                 show(member, out)?;
             }
-            out.push(b']')?;
+            out.push(b')')?;
         }
         Tree::Concat(members) => {
-            out.extend_from_slice(b"[&")?;
+            out.extend_from_slice(b"(&")?;
             for member in members {
                 out.push(b' ')?;
                 show(member, out)?;
             }
-            out.push(b']')?;
+            out.push(b')')?;
         }
         Tree::Cross(input, output) => {
-            out.extend_from_slice(b"[: ")?;
+            out.extend_from_slice(b"(: ")?;
             show(input, out)?;
             out.push(b' ')?;
             show(output, out)?;
-            out.push(b']')?;
+            out.push(b')')?;
+        }
+        Tree::Compose(first, second) => {
+            out.extend_from_slice(b"(@ ")?;
+            show(first, out)?;
+            out.push(b' ')?;
+            show(second, out)?;
+            out.push(b')')?;
+        }
+        Tree::Minus(all, without) => {
+            out.extend_from_slice(b"(- ")?;
+            show(all, out)?;
+            out.push(b' ')?;
+            show(without, out)?;
+            out.push(b')')?;
+        }
+        Tree::Weighted(inner, weight) => {
+            out.push(b'<')?;
+            show_number(*weight, out)?;
+            out.push(b'>')?;
+            show(inner, out)?;
         }
         Tree::Star(inner) => {
             show(inner, out)?;
             out.push(b'*')?;
         }
-        _ => out.push(b'?')?,
+        Tree::Plus(inner) => {
+            show(inner, out)?;
+            out.push(b'+')?;
+        }
+        Tree::Maybe(inner) => {
+            show(inner, out)?;
+            out.push(b'?')?;
+        }
+        Tree::Times(inner, least, most) => {
+            show(inner, out)?;
+            out.push(b'{')?;
+            show_number(*least, out)?;
+            out.push(b',')?;
+            show_number(*most, out)?;
+            out.push(b'}')?;
+        }
     }
     Ok(())
 }
 
-/// The exported name, `=` and the tree; or why there is none.
+fn show_statement(statement: &Statement, out: &mut Vec<u8>) -> Result<(), AllocError> {
+    match statement {
+        Statement::Import { file, alias } => {
+            out.extend_from_slice(file.bytes())?;
+            out.extend_from_slice(b" as ")?;
+            out.extend_from_slice(alias.bytes())?;
+        }
+        Statement::Define {
+            export,
+            name,
+            value,
+        } => {
+            if *export {
+                out.extend_from_slice(b"export ")?;
+            }
+            out.extend_from_slice(name.bytes())?;
+            out.push(b'=')?;
+            show(value, out)?;
+        }
+        Statement::Func {
+            name,
+            params,
+            body,
+            result,
+        } => {
+            out.extend_from_slice(name.bytes())?;
+            for param in params {
+                out.push(b' ')?;
+                out.extend_from_slice(param.bytes())?;
+            }
+            out.push(b':')?;
+            for local in body {
+                out.push(b' ')?;
+                out.extend_from_slice(local.name.bytes())?;
+                out.push(b'=')?;
+                show(&local.value, out)?;
+            }
+            out.extend_from_slice(b" return ")?;
+            show(result, out)?;
+        }
+    }
+    out.push(b'\n')?;
+    Ok(())
+}
+
+/// The statements of a file, or the name of the fault.
 fn shown(alloc: Global, text: &[u8]) -> Result<Vec<u8>, AllocError> {
     let mut out = Vec::new(alloc);
     match read_file(alloc, text) {
         Ok(File { statements }) => {
             for statement in &statements {
-                if let Statement::Define {
-                    export: true,
-                    name,
-                    value,
-                } = statement
-                {
-                    out.extend_from_slice(name.bytes())?;
-                    out.push(b'=')?;
-                    show(value, &mut out)?;
-                }
+                show_statement(statement, &mut out)?;
             }
         }
-        Err(ReadFault::NotYet) => out.extend_from_slice(b"no")?,
-        Err(ReadFault::Memory) => return Err(AllocError),
+        Err(_) => out.extend_from_slice(b"fault")?,
     }
     Ok(out)
 }
 
 #[test]
-fn texts_have_their_files(rt: HostRuntime) -> Result<(), AllocError> {
+fn texts_have_their_statements(rt: HostRuntime) -> Result<(), AllocError> {
     let alloc = rt.alloc();
-    let cases: [(&[u8], &[u8]); 52] = [
-        (b"export x = \"a\";", b"x=\"a\""),
-        (b"export MAIN = \"a\" : \"b\";", b"MAIN=[: \"a\" \"b\"]"),
-        (b"export _9Z=\"\";", b"_9Z=\"\""),
-        (b" \n export\nx = \n\"a\" ; \n ", b"x=\"a\""),
+    let cases: [(&[u8], &[u8]); 17] = [
+        (b"", b""),
+        (b"# nothing, to the end", b""),
+        (b"x = \"a\";", b"x=\"a\"\n"),
+        (b"x=y;#c\nexport z\r\n=\t w ;\r\n", b"x=y\nexport z=w\n"),
+        (b"import 'a b.grm' as m;", b"a b.grm as m\n"),
+        (b"func f[] { return \"a\"; }", b"f: return \"a\"\n"),
         (
-            b"export x = \"a\" | \"b\" | \"c\";",
-            b"x=[| \"a\" \"b\" \"c\"]",
+            b"export func f[a, b] { c = a; d = c b; return d; }",
+            b"f a b: c=a d=(& c b) return d\n",
         ),
+        (b"Optimize = Invert[x];", b"Optimize=Invert[x;]\n"),
         (
-            b"export x = (\"a\" | \"b\") | \"c\";",
-            b"x=[| [| \"a\" \"b\"] \"c\"]",
+            b"exports = as_; _9 = returned;",
+            b"exports=as_\n_9=returned\n",
         ),
-        (b"export x = \"a\" \"b\" \"c\";", b"x=[& \"a\" \"b\" \"c\"]"),
+        (b"x = \"\";", b"x=\"\"\n"),
         (
-            b"export x = \"a\" (\"b\" \"c\");",
-            b"x=[& \"a\" [& \"b\" \"c\"]]",
+            b"x = \"\\n\\t\\r\\\"\\\\\\[\\]\\'\";",
+            b"x=\"\n\t\r\"\\[]'\"\n",
         ),
-        (
-            b"export x = \"a\" \"b\" | \"c\" : \"d\" \"e\";",
-            b"x=[| [& \"a\" \"b\"] [: \"c\" [& \"d\" \"e\"]]]",
-        ),
-        (
-            b"export x = (\"a\" : \"b\") | (\"c\" : \"d\");",
-            b"x=[| [: \"a\" \"b\"] [: \"c\" \"d\"]]",
-        ),
-        (
-            b"export x = (\"a\" | \"b\") : \"c\";",
-            b"x=[: [| \"a\" \"b\"] \"c\"]",
-        ),
-        (b"export x = \"a\"**;", b"x=\"a\"**"),
-        (b"export x = (\"a\"* \"b\")*;", b"x=[& \"a\"* \"b\"]*"),
-        (
-            b"export x = (\"a\" : \"b\")* \"c\";",
-            b"x=[& [: \"a\" \"b\"]* \"c\"]",
-        ),
-        (b"export x = ((\"a\"));", b"x=\"a\""),
-        (
-            b"export x = \"a;b|c:(*)=\t\r'#\";",
-            b"x=\"a;b|c:(*)=\t\r'#\"",
-        ),
-        (b"export x = \"\xc8\xff\x01\";", b"x=\"\xc8\xff\x01\""),
-        (b"export exports = \"a\";", b"exports=\"a\""),
-        (b"export x = \"a\"", b"no"),
-        (b"export x = \"a;", b"no"),
-        (b"export x = a\";", b"no"),
-        (b"export x = \"a\n\";", b"no"),
-        (b"export x = \"a\x00\";", b"no"),
-        (b"export x = \"a\\n\";", b"no"),
-        (b"export x = \"[65]\";", b"no"),
-        (b"export x = \"]\";", b"no"),
-        (b"export export = \"a\";", b"no"),
-        (b"export import = \"a\";", b"no"),
-        (b"export as = \"a\";", b"no"),
-        (b"export func = \"a\";", b"no"),
-        (b"export return = \"a\";", b"no"),
-        (b"export Optimize = \"a\";", b"no"),
-        (b"export Invert = \"a\";", b"no"),
-        (b"export Project = \"a\";", b"no"),
-        (b"export StringFile = \"a\";", b"no"),
-        (b"export CDRewrite = \"a\";", b"no"),
-        (b"exportx = \"a\";", b"no"),
-        (b"export 9x = \"a\";", b"no"),
-        (b"export = \"a\";", b"no"),
-        (b"export x \"a\";", b"no"),
-        (b"export x = ;", b"no"),
-        (b"x = \"a\";", b"no"),
-        (b"", b"no"),
-        (b"export x = \"a\" : \"b\" : \"c\";", b"no"),
-        (b"export x = (\"a\" : \"b\") : \"c\";", b"no"),
-        (b"export x = \"a\" : (\"b\" | (\"c\" : \"d\")*);", b"no"),
-        (b"export x = (\"a\";", b"no"),
-        (b"export x = \"a\");", b"no"),
-        (b"export\tx = \"a\";", b"no"),
-        (b"export x = \"a\" <1>;", b"no"),
-        (b"export x = \"a\"; export y = \"b\";", b"no"),
-        (b"export x = *\"a\" | ;", b"no"),
+        (b"x = \"[65][0x41][0x4a][7][0xF]\";", b"x=\"AAJ\x07\x0f\"\n"),
+        (b"x = \"[BOS]a[EOS]\";", b"x=\"^a$\"\n"),
+        (b"x = \"\xc8[255];#'\";", b"x=\"\xc8\xff;#'\"\n"),
+        (b"x = a <.5> <5.> <0>;", b"x=<0><50000><5000>a\n"),
+        (b"x = a <429496.7295>;", b"x=<4294967295>a\n"),
+        (b"x = a <0.0001> | b <2>;", b"x=(| <1>a <20000>b)\n"),
     ];
     for (text, wanted) in cases {
         assert!(rt; shown(alloc, text)?.as_slice() == wanted);
@@ -154,31 +234,183 @@ fn texts_have_their_files(rt: HostRuntime) -> Result<(), AllocError> {
     Ok(())
 }
 
-/// A file whose string stands in so many brackets.
-fn in_brackets(alloc: Global, count: usize) -> Result<Vec<u8>, AllocError> {
-    let mut text = Vec::from_slice(alloc, b"export x = ")?;
+#[test]
+fn expressions_have_their_trees(rt: HostRuntime) -> Result<(), AllocError> {
+    let alloc = rt.alloc();
+    let cases: [(&[u8], &[u8]); 29] = [
+        (b"x = a | b @ c | d;", b"x=(| a (@ b c) d)\n"),
+        (b"x = a @ b : c @ d;", b"x=(@ (@ a (: b c)) d)\n"),
+        (b"x = a : b - c : d;", b"x=(: (: a (- b c)) d)\n"),
+        (b"x = a - b <1> - c;", b"x=(- (- a <10000>b) c)\n"),
+        (b"x = a b <1>;", b"x=<10000>(& a b)\n"),
+        (b"x = a b* c;", b"x=(& a b* c)\n"),
+        (b"x = a | b | c;", b"x=(| a b c)\n"),
+        (b"x = a @ b @ c;", b"x=(@ (@ a b) c)\n"),
+        (b"x = a : b : c;", b"x=(: (: a b) c)\n"),
+        (b"x = a - b - c;", b"x=(- (- a b) c)\n"),
+        (b"x = a b c;", b"x=(& a b c)\n"),
+        (b"x = a b* <1> <2>;", b"x=<20000><10000>(& a b*)\n"),
+        (b"x = a*+?{2,3}{0,0}*;", b"x=a*+?{2,3}{0,0}*\n"),
+        (b"x = (a | b) | c;", b"x=(| (| a b) c)\n"),
+        (b"x = a | (b | c);", b"x=(| a (| b c))\n"),
+        (b"x = a (b c);", b"x=(& a (& b c))\n"),
+        (b"x = a - (b - c);", b"x=(- a (- b c))\n"),
+        (b"x = (a : b) - c;", b"x=(- (: a b) c)\n"),
+        (b"x = (a | b)+ \"c\"?;", b"x=(& (| a b)+ \"c\"?)\n"),
+        (b"x = ((a <1>)) <2>;", b"x=<20000><10000>a\n"),
+        (b"x = ((a));", b"x=a\n"),
+        (b"x = f[];", b"x=f[]\n"),
+        (b"x = f[a, 'x'];", b"x=f[a;'x';]\n"),
+        (b"x = f ['x', a | b, g[c]];", b"x=f['x';(| a b);g[c;];]\n"),
+        (b"x = m.n o;", b"x=(& m.n o)\n"),
+        (b"x = m . f [a] g;", b"x=(& m.f[a;] g)\n"),
+        (b"x = f[a]* : m.n+;", b"x=(: f[a;]* m.n+)\n"),
+        (b"x = \"a\"\"b\";", b"x=(& \"a\" \"b\")\n"),
+        (b"x = a(b)c;", b"x=(& a b c)\n"),
+    ];
+    for (text, wanted) in cases {
+        assert!(rt; shown(alloc, text)?.as_slice() == wanted);
+    }
+    Ok(())
+}
+
+#[test]
+fn the_first_fault_is_answered(rt: HostRuntime) -> Result<(), AllocError> {
+    let alloc = rt.alloc();
+    let lexeme = |at: u64| ReadFault::BadLexeme { at };
+    let weight = |at: u64| ReadFault::BadWeight { at };
+    let cases: [(&[u8], ReadFault); 24] = [
+        (b"x = \"a", lexeme(4)),
+        (b"x = \"a\n\";", lexeme(4)),
+        (b"x = \"[0]\";", lexeme(4)),
+        (b"x = \"[256]\";", lexeme(4)),
+        (b"x = \"[0x00]\";", lexeme(4)),
+        (b"x = \"[0x100]\";", lexeme(4)),
+        (b"x = \"[bos]\";", lexeme(4)),
+        (b"x = \"]\";", lexeme(4)),
+        (b"x = \"\\a\";", lexeme(4)),
+        (b"x = a{1,12345};", lexeme(8)),
+        (b"import '' as m;", lexeme(7)),
+        (b"import 'a\n' as m;", lexeme(7)),
+        (b"x = a\0;", lexeme(5)),
+        (b"x = \xc8;", lexeme(4)),
+        (b"x = $;", lexeme(4)),
+        (b"x = a <0.00001>;", weight(6)),
+        (b"x = a <429496.7296>;", weight(6)),
+        (b"x = a <>;", weight(6)),
+        (b"x = a <.>;", weight(6)),
+        (b"x = a <1\n>;", weight(6)),
+        (b"x = a <1", weight(6)),
+        // by place, and before syntax
+        (b"x = ; <> $", weight(6)),
+        (b"x = ; $ <>", lexeme(6)),
+        (b"; \"", lexeme(2)),
+    ];
+    for (text, wanted) in cases {
+        match read_file(alloc, text) {
+            Ok(_) => assert!(rt; false),
+            Err(fault) => assert!(rt; fault == wanted),
+        }
+    }
+    Ok(())
+}
+
+#[test]
+fn a_statement_that_is_not_whole_has_its_number(rt: HostRuntime) -> Result<(), AllocError> {
+    let alloc = rt.alloc();
+    let cases: [(&[u8], u64); 47] = [
+        (b"x = ;", 1),
+        (b"x = a; y = ;", 2),
+        (b"x = a; y = b", 2),
+        (b"x = a; y = b; z", 3),
+        (b";", 1),
+        (b"x = a;;", 2),
+        (b"x a;", 1),
+        (b"x : a;", 1),
+        (b"= a;", 1),
+        (b"export = a;", 1),
+        (b"x = as;", 1),
+        (b"x = func[a];", 1),
+        (b"import 'a' as return;", 1),
+        (b"import a as m;", 1),
+        (b"import 'a';", 1),
+        (b"import 'a' as m", 1),
+        (b"export import 'a' as m;", 1),
+        (b"export export x = a;", 1),
+        (b"func f { return a; }", 1),
+        (b"func f[a,] { return a; }", 1),
+        (b"func f[,] { return a; }", 1),
+        (b"func f[a b] { return a; }", 1),
+        (b"func f[export] { return a; }", 1),
+        (b"func f['a'] { return a; }", 1),
+        (b"func f[] { a = b; }", 1),
+        (b"func f[] { return a }", 1),
+        (b"func f[] { return a; b = c; }", 1),
+        (b"func f[] { return a;", 1),
+        (b"func f[] { export a = b; return a; }", 1),
+        (b"x = m.f[a].g;", 1),
+        (b"x = m.n.o;", 1),
+        (b"x = m.;", 1),
+        (b"x = m.export;", 1),
+        (b"x = f[a][b];", 1),
+        (b"x = f[a,];", 1),
+        (b"x = f[,a];", 1),
+        (b"x = f[a;", 1),
+        (b"x = f['a' b];", 1),
+        (b"x = 'a';", 1),
+        (b"x = a{3,2};", 1),
+        (b"x = a{2};", 1),
+        (b"x = a{2,3;", 1),
+        (b"x = (a;", 1),
+        (b"x = a);", 1),
+        (b"x = a |;", 1),
+        (b"x = a - <1>;", 1),
+        (b"x = *a;", 1),
+    ];
+    for (text, statement) in cases {
+        match read_file(alloc, text) {
+            Ok(_) => assert!(rt; false),
+            Err(fault) => assert!(rt; fault == ReadFault::Syntax { statement }),
+        }
+    }
+    Ok(())
+}
+
+/// A text with so many brackets behind one another.
+fn nested(alloc: Global, front: &[u8], count: usize, back: &[u8]) -> Result<Vec<u8>, AllocError> {
+    let mut text = Vec::from_slice(alloc, front)?;
     for _ in 0..count {
         text.push(b'(')?;
     }
-    text.extend_from_slice(b"\"a\"")?;
+    text.extend_from_slice(back)?;
     for _ in 0..count {
         text.push(b')')?;
     }
-    text.extend_from_slice(b" (\"b\");")?;
+    text.extend_from_slice(b";")?;
     Ok(text)
 }
 
 #[test]
 fn brackets_are_open_to_a_limit(rt: HostRuntime) -> Result<(), AllocError> {
     let alloc = rt.alloc();
-    let cases: [(usize, &[u8]); 3] = [
-        (127, b"x=[& \"a\" \"b\"]"),
-        (128, b"x=[& \"a\" \"b\"]"),
-        (129, b"no"),
+    let deep = |at: u64| ReadFault::TooDeep { at };
+    let syntax = ReadFault::Syntax { statement: 1 };
+    let cases: [(&[u8], usize, &[u8], Option<ReadFault>); 7] = [
+        (b"x = ", 128, b"a", None),
+        (b"x = (a) ", 128, b"a", None),
+        (b"x = ", 129, b"a", Some(deep(132))),
+        // a depth is no fault of syntax, and comes before one
+        (b"; ", 129, b"", Some(deep(130))),
+        (b"x = ", 128, b"", Some(syntax)),
+        (b"x = f[", 128, b"a", Some(deep(133))),
+        (b"x = ) ", 129, b"{", Some(deep(134))),
     ];
-    for (count, wanted) in cases {
-        let text = in_brackets(alloc, count)?;
-        assert!(rt; shown(alloc, &text)?.as_slice() == wanted);
+    for (front, count, back, wanted) in cases {
+        let text = nested(alloc, front, count, back)?;
+        match read_file(alloc, &text) {
+            Ok(_) => assert!(rt; wanted.is_none()),
+            Err(fault) => assert!(rt; wanted == Some(fault)),
+        }
     }
     Ok(())
 }
@@ -186,7 +418,15 @@ fn brackets_are_open_to_a_limit(rt: HostRuntime) -> Result<(), AllocError> {
 #[test]
 fn faults_are_shown_by_their_names(rt: HostRuntime) -> Result<(), AllocError> {
     let alloc = rt.alloc();
-    assert!(rt; format!(in alloc; "{}", ReadFault::NotYet)?.as_str() == "NotYet");
-    assert!(rt; format!(in alloc; "{}", ReadFault::Memory)?.as_str() == "Memory");
+    let cases: [(ReadFault, &str); 5] = [
+        (ReadFault::BadLexeme { at: 1 }, "BadLexeme"),
+        (ReadFault::Syntax { statement: 1 }, "Syntax"),
+        (ReadFault::BadWeight { at: 1 }, "BadWeight"),
+        (ReadFault::TooDeep { at: 1 }, "TooDeep"),
+        (ReadFault::Memory, "Memory"),
+    ];
+    for (fault, wanted) in cases {
+        assert!(rt; format!(in alloc; "{}", fault)?.as_str() == wanted);
+    }
     Ok(())
 }

@@ -1,30 +1,30 @@
 use Rattle.std.proofs.Common.{inl, inr, refl, true, false}
-use Rattle.speak_core.specs.declared.stop.Stop.TheVariants.{Words, NotRead, Outside, TooLong}
-use Rattle.speak_core.proofs.Endings.{stopped_at, end_at, at_most_six, finished, all_read_at, some_refused_at, is_refusal, refused_end, long_end, outside_rose, none_rose, at_end, speaks_at, complete_end, told_refusal, told_stop, told_short}
+use Rattle.speak_core.specs.declared.stop.Stop.TheVariants.{Words, Outside, TooLong}
+use Rattle.speak_core.proofs.Endings.{refusal_end, told_words, stopped_at, end_at, at_most_six, finished, all_read_at, some_refused_at, is_refusal, refused_end, long_end, outside_rose, none_rose, at_end, speaks_at, complete_end, told_refusal, told_stop, told_short}
 use Rattle.speak_core.proofs.top.speak.Goals as goal
 
 pub returns-clause-range : goal.returns-clause-range
 returns-clause-range g c = at_most_six c.run.result c.finish.result c.finish.ensures.status
 
 pub returns-clause-wrong_words : goal.returns-clause-wrong_words
-returns-clause-wrong_words g c = λ h. c.run.ensures.words.0 (stopped_at c.run.result Words c.finish.result c.finish.ensures.status h refl)
+returns-clause-wrong_words g c = λ h. c.run.ensures.words.0 (stopped_at c.run.result Words c.finish.result c.finish.ensures.status h refl refl)
 
 pub returns-clause-only_wrong_words : goal.returns-clause-only_wrong_words
 returns-clause-only_wrong_words g c = λ h. end_at c.run.result Words c.finish.result c.finish.ensures.status (c.run.ensures.words.1 h)
 
-pub returns-clause-not_read : goal.returns-clause-not_read
-returns-clause-not_read g c = λ h. c.run.ensures.not_read (stopped_at c.run.result NotRead c.finish.result c.finish.ensures.status h refl)
+pub returns-clause-refused : goal.returns-clause-refused
+returns-clause-refused g c = λ h. refusal_end c.args.words.now (g.H.Shelf.files c.args.shelf.now) c.run.result c.finish.result c.finish.ensures.status h c.run.ensures.refused
 
-pub returns-clause-only_not_read : goal.returns-clause-only_not_read
-returns-clause-only_not_read g c = refused_end c.args.words.now (g.H.Shelf.files c.args.shelf.now) c.run.result c.finish.result c.finish.ensures.status c.run.ensures.words.0 c.run.ensures.only_not_read
+pub returns-clause-only_refused : goal.returns-clause-only_refused
+returns-clause-only_refused g c = refused_end c.args.words.now (g.H.Shelf.files c.args.shelf.now) c.run.result c.finish.result c.finish.ensures.status c.run.ensures.words.0 c.run.ensures.only_refused
 
 pub returns-clause-outside : goal.returns-clause-outside
 returns-clause-outside g c = λ h.
     outside_rose (g.H.Shelf.faults c.args.shelf.now) (g.H.Shelf.faults c.run.new.shelf) (g.S.Source.faults c.args.source.now) (g.S.Source.faults c.run.new.source) (g.O.Sink.faults c.args.out.now) (g.O.Sink.faults c.run.new.out) (g.E.Sink.faults c.args.err.now) (g.E.Sink.faults c.run.new.err) (g.E.Sink.faults c.finish.new.err) c.run.result
-    c.run.ensures.counts c.finish.ensures.later (stopped_at c.run.result Outside c.finish.result c.finish.ensures.status h refl)
+    c.run.ensures.counts c.finish.ensures.later (stopped_at c.run.result Outside c.finish.result c.finish.ensures.status h refl refl)
 
 pub returns-clause-too_long : goal.returns-clause-too_long
-returns-clause-too_long g c = λ h. c.run.ensures.too_long (stopped_at c.run.result TooLong c.finish.result c.finish.ensures.status h refl)
+returns-clause-too_long g c = λ h. c.run.ensures.too_long (stopped_at c.run.result TooLong c.finish.result c.finish.ensures.status h refl refl)
 
 pub returns-clause-only_too_long : goal.returns-clause-only_too_long
 returns-clause-only_too_long g c = long_end (g.S.Source.left c.args.source.now) (g.S.Source.left c.run.new.source) c.run.result c.finish.result c.finish.ensures.status c.run.ensures.only_too_long
@@ -58,37 +58,37 @@ returns-clause-complete g c =
     complete_end c.args.words.now (g.H.Shelf.files c.args.shelf.now) (g.S.Source.left c.args.source.now) (g.S.Source.left c.run.new.source) _ c.run.result c.finish.result c.finish.ensures.status
     (record {
       wrong = c.run.ensures.words.0;
-      unread = c.run.ensures.not_read;
+      refusals = c.run.ensures.refused;
       rises = outside_rose (g.H.Shelf.faults c.args.shelf.now) (g.H.Shelf.faults c.run.new.shelf) (g.S.Source.faults c.args.source.now) (g.S.Source.faults c.run.new.source) (g.O.Sink.faults c.args.out.now) (g.O.Sink.faults c.run.new.out) (g.E.Sink.faults c.args.err.now) (g.E.Sink.faults c.run.new.err) (g.E.Sink.faults c.finish.new.err) c.run.result c.run.ensures.counts c.finish.ensures.later;
       long = c.run.ensures.too_long;
     })
 
 pub returns-clause-told_words : goal.returns-clause-told_words
 returns-clause-told_words g c = λ h.
-    told_refusal c.run.result Words c.finish.result (g.E.Sink.faults c.args.err.now) (g.E.Sink.faults c.run.new.err) (g.E.Sink.faults c.finish.new.err) (g.E.Sink.held c.args.err.now) (g.E.Sink.held c.run.new.err) (g.E.Sink.held c.finish.new.err)
-    c.finish.ensures.status c.finish.ensures.told h refl c.run.ensures.later (c.run.ensures.silent_err (is_refusal c.run.result c.finish.result c.finish.ensures.status (inl h)))
+    told_words c.run.result c.finish.result (g.E.Sink.faults c.args.err.now) (g.E.Sink.faults c.run.new.err) (g.E.Sink.faults c.finish.new.err) (g.E.Sink.held c.args.err.now) (g.E.Sink.held c.run.new.err) (g.E.Sink.held c.finish.new.err)
+    c.finish.ensures.status c.finish.ensures.told h c.run.ensures.later (c.run.ensures.silent_err (is_refusal c.run.result c.finish.result c.finish.ensures.status (inl h)))
 
-pub returns-clause-told_not_read : goal.returns-clause-told_not_read
-returns-clause-told_not_read g c = λ h.
-    told_refusal c.run.result NotRead c.finish.result (g.E.Sink.faults c.args.err.now) (g.E.Sink.faults c.run.new.err) (g.E.Sink.faults c.finish.new.err) (g.E.Sink.held c.args.err.now) (g.E.Sink.held c.run.new.err) (g.E.Sink.held c.finish.new.err)
-    c.finish.ensures.status c.finish.ensures.told h refl c.run.ensures.later (c.run.ensures.silent_err (is_refusal c.run.result c.finish.result c.finish.ensures.status (inr h)))
+pub returns-clause-told_refused : goal.returns-clause-told_refused
+returns-clause-told_refused g c = λ h.
+    told_refusal c.args.words.now (g.H.Shelf.files c.args.shelf.now) c.run.result c.finish.result (g.E.Sink.faults c.args.err.now) (g.E.Sink.faults c.run.new.err) (g.E.Sink.faults c.finish.new.err) (g.E.Sink.held c.args.err.now) (g.E.Sink.held c.run.new.err) (g.E.Sink.held c.finish.new.err)
+    c.finish.ensures.status c.finish.ensures.told h c.run.ensures.later (c.run.ensures.silent_err (is_refusal c.run.result c.finish.result c.finish.ensures.status (inr h))) c.run.ensures.refused
 
 pub returns-clause-told_outside : goal.returns-clause-told_outside
 returns-clause-told_outside g c = λ h.
     told_stop c.args.words.now (g.H.Shelf.files c.args.shelf.now) (g.S.Source.left c.args.source.now) c.run.result Outside c.finish.result (g.E.Sink.faults c.args.err.now) (g.E.Sink.faults c.run.new.err) (g.E.Sink.faults c.finish.new.err) (g.E.Sink.held c.args.err.now) (g.E.Sink.held c.run.new.err) (g.E.Sink.held c.finish.new.err)
-    c.finish.ensures.status c.finish.ensures.told h refl c.run.ensures.later c.run.ensures.faults_front
+    c.finish.ensures.status c.finish.ensures.told h refl refl c.run.ensures.later c.run.ensures.faults_front
 
 pub returns-clause-told_too_long : goal.returns-clause-told_too_long
 returns-clause-told_too_long g c = λ h.
     told_stop c.args.words.now (g.H.Shelf.files c.args.shelf.now) (g.S.Source.left c.args.source.now) c.run.result TooLong c.finish.result (g.E.Sink.faults c.args.err.now) (g.E.Sink.faults c.run.new.err) (g.E.Sink.faults c.finish.new.err) (g.E.Sink.held c.args.err.now) (g.E.Sink.held c.run.new.err) (g.E.Sink.held c.finish.new.err)
-    c.finish.ensures.status c.finish.ensures.told h refl c.run.ensures.later c.run.ensures.faults_front
+    c.finish.ensures.status c.finish.ensures.told h refl refl c.run.ensures.later c.run.ensures.faults_front
 
 pub returns-clause-told_memory : goal.returns-clause-told_memory
 returns-clause-told_memory g c = λ h.
     told_short c.args.words.now (g.H.Shelf.files c.args.shelf.now) (g.S.Source.left c.args.source.now) (g.S.Source.left c.run.new.source) _ c.run.result c.finish.result (g.E.Sink.held c.args.err.now) (g.E.Sink.held c.run.new.err) (g.E.Sink.held c.finish.new.err) c.finish.ensures.status h
     (record {
       wrong = c.run.ensures.words.0;
-      unread = c.run.ensures.not_read;
+      refusals = c.run.ensures.refused;
       rises = outside_rose (g.H.Shelf.faults c.args.shelf.now) (g.H.Shelf.faults c.run.new.shelf) (g.S.Source.faults c.args.source.now) (g.S.Source.faults c.run.new.source) (g.O.Sink.faults c.args.out.now) (g.O.Sink.faults c.run.new.out) (g.E.Sink.faults c.args.err.now) (g.E.Sink.faults c.run.new.err) (g.E.Sink.faults c.finish.new.err) c.run.result c.run.ensures.counts c.finish.ensures.later;
       long = c.run.ensures.too_long;
     }) (c.finish.ensures.short h) c.run.ensures.faults_front

@@ -1,8 +1,14 @@
-use Rattle.std.proofs.Common.{map}
-use Rattle.thrax_syntax.specs.Lexing.{lex_of}
-use Rattle.thrax_syntax.specs.Trees.{tree_term}
-use Rattle.thrax_syntax.proofs.Files.{stated_takes}
+use Rattle.std.proofs.Common.{sym, true, map}
+use Rattle.thrax_lexer.specs.Lexemes.{lex_of}
+use Rattle.thrax_syntax.specs.Trees.{statement_term}
+use Rattle.thrax_syntax.proofs.Stating.{defined_as, export_func_same, export_made}
+use Rattle.thrax_syntax.proofs.Taking.{made_takes, same_gives, takes_as}
 use Rattle.thrax_syntax.proofs.statements.exported.Goals as goal
 
-pub returns : goal.returns
-returns c = stated_takes (map lex_of c.args.lexemes.now) (map lex_of c.in_ok-name.after.now) (map lex_of c.in_ok-value.rest.now) c.in_ok-name.name (tree_term c.in_ok-value.value) c.in_ok-name.ensures c.in_ok-value.ensures
+pub returns-in-Some-clause-exact : goal.returns-in-Some-clause-exact
+returns-in-Some-clause-exact c =
+    same_gives (λ x. statement_term x.0) (λ x. map lex_of x.1.now) c.function.result (export_func_same (map lex_of c.in-Some.after.now) (map lex_of c.args.lexemes.now) c.in-Some.ensures.found) c.function.ensures.exact
+
+pub returns-in_ok-local-in-None-clause-exact : goal.returns-in_ok-local-in-None-clause-exact
+returns-in_ok-local-in-None-clause-exact c =
+    takes_as (sym c.define.ensures) (made_takes (defined_as true) (export_made (map lex_of c.args.lexemes.now) c.in-None.ensures.none) c.in_ok-local-in-None.ensures.exact)

@@ -1,0 +1,4 @@
+pub mod Linking
+pub mod Exports
+pub mod Answers
+pub mod Progress

@@ -1,0 +1,60 @@
+//! The files that are finished.
+
+ghost use Rattle.std.specs.Prelude.{◌≡◌, ◌∷◌, ◌++◌, ◌<◌, [], ℕ, IfOk, IfNone, IfSome, List, MatchOption, OnOk, length, None, Some};
+ghost use Rattle.norm_base.specs.Files.{Files};
+ghost use Rattle.thrax_link.specs.Linking.{finished_names};
+ghost use Rattle.thrax_link.specs.Progress.{Grows, IsPlaced, finished_of, scope_at};
+
+use norm_base::Name;
+use std::alloc::{AllocError, Global};
+use std::collections::HashMap;
+use thrax_meaning::Table;
+
+/// The files that were linked, in the order in which they were finished, each found at once by its name.
+#[derive(Drop)]
+pub(crate) struct Done {
+    pub names: Vec<Name>,
+    pub tables: Vec<Table>,
+    pub places: HashMap<Vec<u8>, usize>,
+}
+
+impl Done {
+    /// No files.
+    pub fn new(alloc: Global) -> Done
+        ensures placed { IsPlaced result }
+        ensures none { result.tables.items ≡ [] }
+        ensures finished { (files : Files) → finished_of files result ≡ [] }
+    {
+        Done {
+            names: Vec::new(alloc),
+            tables: Vec::new(alloc),
+            places: HashMap::new(alloc),
+        }
+    }
+
+    /// The place of a file.
+    pub fn find(&self, alloc: Global, name: &Name) -> Result<Option<usize>, AllocError>
+        requires { IsPlaced self.now }
+        ensures { IfOk result (λ found. (files : Files) → MatchOption found (finished_names (finished_of files self.now) name.now ≡ None)
+            (λ k. (k < length self.now.tables.items) × (finished_names (finished_of files self.now) name.now ≡ Some (scope_at files self.now.tables.items k)))) }
+    {
+        let key = Vec::from_slice(alloc, name.bytes())?;
+        Ok(self.places.get(&key).copied())
+    }
+
+    /// One more file, and its place.
+    pub fn finish(&mut self, alloc: Global, name: &Name, table: Table) -> Result<usize, AllocError>
+        requires { IsPlaced self.old }
+        ensures place { IfOk result (λ k. k ≡ length self.old.tables.items) }
+        ensures names { OnOk result (self.new.names.items ≡ self.old.names.items ++ name.now ∷ []) }
+        ensures tables { OnOk result (self.new.tables.items ≡ self.old.tables.items ++ table ∷ []) }
+        ensures placed { OnOk result (IsPlaced self.new) }
+    {
+        let place = self.tables.len();
+        let key = Vec::from_slice(alloc, name.bytes())?;
+        self.names.push(Name::new(alloc, name.bytes())?)?;
+        self.tables.push(table)?;
+        self.places.insert(key, place)?;
+        Ok(place)
+    }
+}

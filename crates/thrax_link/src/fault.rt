@@ -1,0 +1,20 @@
+//! Why there is no grammar.
+
+use norm_base::Name;
+use thrax_meaning::Why;
+
+/// Why there is no grammar.
+#[derive(Debug, PartialEq, Eq, Drop)]
+pub enum LinkFault {
+    /// The first refusal: the file, the number of the statement, and the cause. Statements count from 1; 0 stands for
+    /// the file as a whole, where its text is no grammar file's, or where the first file isn't there.
+    Refused {
+        file: Name,
+        statement: u64,
+        why: Why,
+    },
+    /// The shelf failed, and its count of faults rose.
+    ShelfFault,
+    /// There was no memory.
+    Memory,
+}

@@ -1,0 +1,11 @@
+pub mod KindRules
+pub mod ListRules
+pub mod Scopes
+pub mod Quiet
+pub mod Fronts
+pub mod Cuts
+pub mod Digits
+pub mod EntryRules
+pub mod CallRules
+pub mod FileRules
+pub mod Bindings

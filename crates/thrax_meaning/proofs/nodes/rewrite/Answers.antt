@@ -1,0 +1,16 @@
+use Rattle.std.proofs.Common.{◌≡◌, ◌∙◌, sym, subst, ap, true, false, rules}
+use Rattle.core_expressions.specs.Views.{manner_of, expression_of}
+use Rattle.thrax_meaning.specs.Answers.{Gives, shared_of}
+use Rattle.thrax_meaning.specs.Sound.{is_plain_acceptor}
+use Rattle.weighted_relations.specs.Expressions.{is_marked}
+use Rattle.thrax_meaning.proofs.KindRules.{rewrite_passes}
+use Rattle.thrax_meaning.proofs.nodes.rewrite.Goals as goal
+
+pub returns-clause-means : goal.returns-clause-means
+returns-clause-means c =
+    let a : is_plain_acceptor (shared_of c.args.left) ≡ true = search rules in
+    let b : is_plain_acceptor (shared_of c.args.right) ≡ true = search rules in
+    let d : is_plain_acceptor (shared_of c.args.sigma) ≡ true = search rules in
+    let e : is_marked (shared_of c.args.tau) ≡ false = search rules in
+    let f : is_marked (shared_of c.args.sigma) ≡ false = search rules in
+    subst (Gives c.rewrite_node.result) (sym (rewrite_passes (manner_of c.args.mode) (shared_of c.args.tau) (shared_of c.args.left) (shared_of c.args.right) (shared_of c.args.sigma) a b d e f)) c.rewrite_node.ensures.means

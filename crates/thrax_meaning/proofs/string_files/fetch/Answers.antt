@@ -1,0 +1,14 @@
+use Rattle.std.proofs.Common.{◌≡◌, ◌∙◌, sym, subst, true, false}
+use Rattle.std.specs.Str.{is_utf8, IsUtf8}
+use Rattle.std.proofs.lemmas.Bool.{false_from_ne_true}
+use Rattle.std.proofs.lemmas.Str.{IsUtf8-from_is_utf8, is_utf8-from_IsUtf8}
+use Rattle.thrax_meaning.proofs.FileRules.{fetched, unnamed}
+use Rattle.thrax_meaning.proofs.string_files.fetch.Goals as goal
+
+pub returns-in_default-clause-found : goal.returns-in_default-clause-found
+returns-in_default-clause-found g c = λ known told.
+    unnamed known c.args.name.now (false_from_ne_true _ (λ e. c.in_default.ensures.cases.0 (subst IsUtf8 (sym c.bytes.ensures) (IsUtf8-from_is_utf8 _ e))))
+
+pub returns-in-Ok-fetch-clause-found : goal.returns-in-Ok-fetch-clause-found
+returns-in-Ok-fetch-clause-found g c = λ known told.
+    fetched known _ c.args.name.now c.in-Ok.text.now c.in-Ok-fetch.file told (c.in-Ok.ensures.cases.0 ∙ c.bytes.ensures) (is_utf8-from_IsUtf8 _ (subst IsUtf8 c.bytes.ensures c.in-Ok.ensures.cases.1)) c.in-Ok-fetch.ensures.found
