@@ -1,14 +1,9 @@
 -- Lists from their fronts.
-use Rattle.std.proofs.Common.{◌≡◌, ◌∙◌, refl, sym, ap, arith, List, [], ◌∷◌, ◌++◌, length, Bool, true, false, Some, map, append_assoc}
-use Rattle.std.specs.Prelude.{drop, ℕ, is_some, ◌||◌, if◌then◌else◌}
-use Rattle.std.specs.declared.option.Option.{Option}
-use Rattle.std.specs.List.{list_any}
-use Rattle.std.specs.Str.{bytes_eq}
+use Rattle.std.proofs.Common.{◌≡◌, ◌∙◌, refl, sym, ap, arith, List, [], ◌∷◌, ◌++◌, length, true, false, append_assoc}
+use Rattle.std.specs.Prelude.{drop, ℕ}
 use Rattle.std.proofs.lemmas.List.{append-nil, map-append}
 use Rattle.norm_base.specs.Files.{Files}
-use Rattle.core_expressions.specs.Views.{expression_of}
-use Rattle.weighted_relations.specs.Expressions.{Expression}
-use Rattle.thrax_meaning.specs.Meaning.{Meaning, Scope, empty, bound, found}
+use Rattle.thrax_meaning.specs.Meaning.{Scope, empty, bound}
 use Rattle.thrax_meaning.specs.Tables.{meaning_of, scope_after, scope_of}
 use Rattle.thrax_meaning.specs.declared.table.Entry.{Entry}
 use Rattle.thrax_meaning.specs.declared.table.Kind.{Kind}

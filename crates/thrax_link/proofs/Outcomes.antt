@@ -2,13 +2,12 @@
 use Rattle.std.proofs.Common.{◌≡◌, ◌∙◌, refl, sym, ap, subst, ℕ, List, [], Ok, Err}
 use Rattle.std.specs.Prelude.{Result, MatchResult, IfOk, All}
 use Rattle.norm_base.specs.Files.{Files}
-use Rattle.thrax_meaning.specs.Meaning.{Scope}
 use Rattle.thrax_meaning.specs.declared.table.Entry.{Entry}
 use Rattle.weighted_relations.specs.Expressions.{IsSound}
 use Rattle.thrax_link.specs.Answers.{IsLinked, IsOutcome}
 use Rattle.thrax_link.specs.Exports.{exports_of}
-use Rattle.thrax_link.specs.Linking.{Finished, Ending, stopped, linked, LinksUnder, Linked, Outcome, exporting, exports, outcome_of}
-use Rattle.thrax_link.specs.Progress.{Sole, Stops, Imports, finished_of, scope_at}
+use Rattle.thrax_link.specs.Linking.{Finished, stopped, linked, LinksUnder, Linked, Outcome, exporting, exports, outcome_of}
+use Rattle.thrax_link.specs.Progress.{Sole, Stops, Imports, scope_at}
 use Rattle.thrax_link.specs.declared.done.Done.{Done}
 use Rattle.thrax_link.specs.declared.grammar.Export.{Export}
 use Rattle.thrax_link.specs.declared.fault.LinkFault.{LinkFault}

@@ -1,12 +1,10 @@
 -- Names that come a second time.
-use Rattle.std.proofs.Common.{◌≡◌, ◌∙◌, refl, sym, ap, subst, arith, ℕ, ◌+◌, ◌<◌, ◌≤◌, List, [], ◌∷◌, ◌++◌, length, get_or, take, append_assoc, Bool, true, false, None, Some, Vec, Global}
-use Rattle.std.specs.Prelude.{map, drop, if◌then◌else◌, not}
-use Rattle.std.proofs.lemmas.List.{drop_more, take_more, append-nil}
-use Rattle.std.specs.HashSet.{HashSet}
+use Rattle.std.proofs.Common.{◌≡◌, ◌∙◌, refl, sym, ap, ℕ, ◌+◌, ◌<◌, List, [], ◌∷◌, ◌++◌, length, get_or, take, append_assoc, true, false, Some}
+use Rattle.std.specs.Prelude.{map, drop, if◌then◌else◌}
+use Rattle.std.proofs.lemmas.List.{drop_more, take_more}
 use Rattle.thrax_syntax.specs.Trees.{local_term}
 use Rattle.thrax_syntax.specs.declared.tree.Local.{Local}
 use Rattle.thrax_link.specs.Linking.{repeated, is_among}
-use Rattle.thrax_link.specs.Progress.{Holds}
 
 abbrev pub names : List Local → List (List ℕ)
 names ds = map (λ l. l.name) (map local_term ds)

@@ -1,5 +1,5 @@
 -- A value is sound.
-use Rattle.std.proofs.Common.{◌≡◌, refl, subst, arith, ℕ, List, [], ◌∷◌, Bool, true, false, ◌<◌, ◌≤◌}
+use Rattle.std.proofs.Common.{◌≡◌, refl, subst, arith, ℕ, List, [], ◌∷◌, Bool, true, false, ◌<◌}
 use Rattle.std.specs.Prelude.{All, not, nat_lt, nat_le, ◌&&◌}
 use Rattle.std.proofs.lemmas.List.Elements.{All-cons, All-nil}
 use Rattle.weighted_relations.specs.Relations.{IsLabel}

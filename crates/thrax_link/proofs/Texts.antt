@@ -1,7 +1,6 @@
 -- Names that are texts.
-use Rattle.std.proofs.Common.{◌≡◌, ◌∙◌, refl, ap, sym, ℕ, List, Bool, true, false, None, Some}
+use Rattle.std.proofs.Common.{◌≡◌, refl, ap, ℕ, List, Bool, true, false, None}
 use Rattle.std.specs.Prelude.{if◌then◌else◌}
-use Rattle.std.specs.declared.option.Option.{Option}
 use Rattle.std.specs.Str.{IsUtf8, is_utf8}
 use Rattle.std.proofs.lemmas.Str.{is_utf8-from_IsUtf8, IsUtf8-from_is_utf8}
 use Rattle.norm_base.specs.Files.{Files, file_of}

@@ -4,7 +4,7 @@ use Rattle.std.specs.List.{list_any}
 use Rattle.std.specs.Str.{bytes_eq, is_utf8}
 use Rattle.norm_base.specs.Files.{Files, file_of}
 use Rattle.weighted_relations.specs.Expressions.{Expression}
-use Rattle.thrax_syntax.specs.Trees.{TreeTerm, LocalTerm, StatementTerm, import_of, define, func}
+use Rattle.thrax_syntax.specs.Trees.{StatementTerm, import_of, define, func}
 use Rattle.thrax_syntax.specs.Files.{Reading}
 use Rattle.thrax_syntax.specs.declared.fault.ReadFault.{ReadFault}
 use Rattle.thrax_meaning.specs.Meaning.{Taken, refused, taken, Meaning, value, function, file, Scope, empty, bound, found, built_in, meant, function_of}

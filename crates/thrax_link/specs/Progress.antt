@@ -1,10 +1,9 @@
 -- What the linker knows on its way: the files that are finished, and the names of the file that is being linked.
-use Rattle.std.specs.Prelude.{◌≡◌, ℕ, ◌+◌, ◌<◌, List, [], ◌∷◌, ◌++◌, length, get_or, Result, Ok, Err, if◌then◌else◌, Some, None, Vec, nat_eq}
-use Rattle.std.specs.declared.option.Option.{Option}
+use Rattle.std.specs.Prelude.{◌≡◌, ℕ, ◌<◌, List, [], ◌∷◌, ◌++◌, length, get_or, Result, Ok, Err, Vec}
 use Rattle.std.specs.declared.alloc.Global.{Global}
-use Rattle.std.specs.HashMap.{get}
 use Rattle.std.specs.Str.{bytes_eq}
 use Rattle.norm_base.specs.Files.{Files}
+use Rattle.thrax_meaning.specs.Index.{IsIndex}
 use Rattle.thrax_meaning.specs.Meaning.{Scope, empty}
 use Rattle.thrax_meaning.specs.Tables.{scopes_of, scope_over}
 use Rattle.thrax_meaning.specs.declared.table.Entry.{Entry}
@@ -37,18 +36,10 @@ finished_of files done = finished_onto [] done.names.items (scopes_of files done
 abbrev pub scope_at : Files → List (List Entry) → ℕ → Scope
 scope_at files tables k = get_or (scopes_of files tables) k empty
 
--- the last place of a name, from the i-th on, or the one before
-abbrev pub newest_from : ℕ → Option ℕ → List (List ℕ) → List ℕ → Option ℕ
-newest_from i before [] q = before
-newest_from i before (n ∷ names) q = newest_from (i + 1) (if bytes_eq n q then Some i else before) names q
-
-abbrev pub newest : List (List ℕ) → List ℕ → Option ℕ
-newest names q = newest_from 0 None names q
-
 -- each file has its name and its table, and is found by its name
 pub record IsPlaced (done : Done) : Type 0 where
   pub aligned : length done.names.items ≡ length done.tables.items
-  pub placed : (q : Vec ℕ Global) → get (λ v w. bytes_eq v.items w.items) done.places q ≡ newest done.names.items q.items
+  pub placed : IsIndex done.places done.names.items
 
 -- more files are finished
 pub record Grows (old new : Done) : Type 0 where

@@ -33,13 +33,12 @@ impl Done {
     }
 
     /// The place of a file.
-    pub fn find(&self, alloc: Global, name: &Name) -> Result<Option<usize>, AllocError>
+    pub fn find(&self, name: &Name) -> Option<usize>
         requires { IsPlaced self.now }
-        ensures { IfOk result (λ found. (files : Files) → MatchOption found (finished_names (finished_of files self.now) name.now ≡ None)
-            (λ k. (k < length self.now.tables.items) × (finished_names (finished_of files self.now) name.now ≡ Some (scope_at files self.now.tables.items k)))) }
+        ensures { (files : Files) → MatchOption result (finished_names (finished_of files self.now) name.now ≡ None)
+            (λ k. (k < length self.now.tables.items) × (finished_names (finished_of files self.now) name.now ≡ Some (scope_at files self.now.tables.items k))) }
     {
-        let key = Vec::from_slice(alloc, name.bytes())?;
-        Ok(self.places.get(&key).copied())
+        self.places.get(name.bytes()).copied()
     }
 
     /// One more file, and its place.

@@ -91,10 +91,9 @@ fn import<H: Shelf>(
     if is_in_chain(target, chain) {
         return Err(import_loop(alloc, file, statement, target));
     }
-    match done.find(alloc, target) {
-        Err(_) => Err(LinkFault::Memory),
-        Ok(Some(place)) => Ok(place),
-        Ok(None) => {
+    match done.find(target) {
+        Some(place) => Ok(place),
+        None => {
             if left == 0 {
                 return Err(refusal(alloc, file, statement, Why::ImportDepth));
             }

@@ -98,6 +98,33 @@ fn a_file_is_there_and_is_read(rt: HostRuntime) -> Result<(), Fail> {
     )
 }
 
+/// A definition of `"a"` in so many brackets.
+fn bracketed(alloc: Global, front: &str, depth: usize) -> Result<String, AllocError> {
+    let opened = "(".repeat(alloc, depth)?;
+    let closed = ")".repeat(alloc, depth)?;
+    format!(in alloc; "{front}{}\"a\"{};", opened.as_str(), closed.as_str())
+}
+
+#[test]
+fn brackets_are_open_to_a_limit(rt: HostRuntime) -> Result<(), Fail> {
+    let alloc = rt.alloc();
+    let full = bracketed(alloc, "x = ", 128)?;
+    let deep = bracketed(alloc, "x = ", 129)?;
+    let deep_file = bracketed(alloc, "export y = ", 129)?;
+    refuses(
+        &rt,
+        alloc,
+        &[("h", deep_file.as_str())],
+        &[
+            (full.as_str(), ""),
+            // The 129th bracket has 4 bytes and 128 brackets before it, and in the imported file 11 bytes.
+            (deep.as_str(), "g 0 TooDeep { at: 132 }"),
+            ("import 'h' as h;", "h 0 TooDeep { at: 139 }"),
+            ("x = y; import 'h' as h;", "g 1 Unknown y"),
+        ],
+    )
+}
+
 #[test]
 fn names_are_defined_before_their_use(rt: HostRuntime) -> Result<(), Fail> {
     let library =

@@ -1,10 +1,10 @@
 -- Parameters with one argument more.
-use Rattle.std.proofs.Common.{◌≡◌, ◌∙◌, refl, sym, ap, arith, ℕ, ◌+◌, List, [], ◌∷◌, ◌++◌, ◌<◌, ◌≤◌, length, get_or, Global}
+use Rattle.std.proofs.Common.{◌≡◌, ◌∙◌, refl, sym, ap, arith, ℕ, List, [], ◌∷◌, ◌++◌, ◌<◌, ◌≤◌, length, get_or, Global}
 use Rattle.std.specs.Prelude.{map, min}
 use Rattle.std.specs.declared.rc.Rc.{Rc}
 use Rattle.std.proofs.lemmas.List.{map-append, length-map}
 use Rattle.weighted_relations.specs.Expressions.{Expression}
-use Rattle.thrax_meaning.specs.Meaning.{Local, bind}
+use Rattle.thrax_meaning.specs.Meaning.{bind}
 use Rattle.thrax_meaning.specs.Answers.{shared_of}
 use Rattle.thrax_meaning.specs.Tables.{local_of}
 use Rattle.thrax_meaning.specs.declared.table.Bound.{Bound}

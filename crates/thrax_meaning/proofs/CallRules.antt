@@ -1,17 +1,11 @@
 -- What calls of built-in functions mean, by how many arguments they have.
-use Rattle.std.proofs.Common.{◌≡◌, ◌≢◌, ◌∙◌, refl, sym, ap, subst, arith, ℕ, suc, ◌+◌, ◌<◌, ◌≤◌, List, [], ◌∷◌, length, true, false}
-use Rattle.std.specs.Prelude.{map, nat_lt, Result, Ok, Err, Some, None}
-use Rattle.std.specs.declared.option.Option.{Option}
-use Rattle.std.specs.declared.rc.Rc.{Rc}
-use Rattle.std.specs.declared.alloc.Global.{Global}
+use Rattle.std.proofs.Common.{◌≡◌, ◌≢◌, ◌∙◌, refl, sym, ap, arith, suc, ◌<◌, ◌≤◌, List, [], ◌∷◌, length, true, false}
+use Rattle.std.specs.Prelude.{nat_lt}
 use Rattle.norm_base.specs.Files.{Files}
-use Rattle.weighted_relations.specs.Expressions.{Expression, invert}
 use Rattle.thrax_syntax.specs.declared.tree.Tree.{Tree}
-use Rattle.thrax_syntax.specs.Trees.{TreeTerm, terms, tree_term}
 use Rattle.thrax_meaning.specs.declared.why.Why.TheVariants.{Arity}
-use Rattle.thrax_meaning.specs.declared.built_ins.BuiltIn.{BuiltIn}
 use Rattle.thrax_meaning.specs.declared.built_ins.BuiltIn.TheVariants.{Optimize, Invert, Project, StringFile, CDRewrite}
-use Rattle.thrax_meaning.specs.Meaning.{Scope, Local, Taken, refused, arguments, built_in_call}
+use Rattle.thrax_meaning.specs.Meaning.{Scope, Local, refused, built_in_call}
 use Rattle.thrax_meaning.specs.Calls.{given, rewritten}
 use Rattle.thrax_meaning.proofs.Fronts.{arguments_length}
 

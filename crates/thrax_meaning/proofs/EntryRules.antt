@@ -1,9 +1,9 @@
 -- Entries of string files are sound, and a file whose entries so far are too large is too large.
-use Rattle.std.proofs.Common.{◌≡◌, ◌∙◌, refl, sym, ap, subst, arith, rules, ℕ, ◌+◌, ◌<◌, ◌≤◌, List, [], ◌∷◌, ◌++◌, Bool, true, false, append_assoc, length}
+use Rattle.std.proofs.Common.{◌≡◌, ◌∙◌, refl, sym, ap, subst, arith, ℕ, ◌+◌, ◌<◌, ◌≤◌, List, [], ◌∷◌, ◌++◌, Bool, true, false, append_assoc, length}
 use Rattle.std.specs.Prelude.{◌&&◌, ◌==◌, nat_lt, nat_le, is_some, IfSome, Some, None}
 use Rattle.std.specs.declared.option.Option.{Option}
 use Rattle.std.specs.Option.{option_map}
-use Rattle.std.proofs.lemmas.Bool.{and_parts, le-ltb, ltb-false}
+use Rattle.std.proofs.lemmas.Bool.{and_parts, ltb-false}
 use Rattle.weighted_relations.specs.Expressions.{Expression, text, cross, weighted, union, members, sizes, size as size_of}
 use Rattle.thrax_meaning.specs.Sound.{are_labels, meets_kinds}
 use Rattle.thrax_meaning.specs.Fields.{fields, onto_first, are_bytes, weight_field, weight_with, digits_of, after_digits, limited}

@@ -6,8 +6,8 @@ use Rattle.std.specs.Prelude.{map, drop}
 use Rattle.norm_base.specs.Files.{Files}
 use Rattle.weighted_relations.specs.Expressions.{Expression}
 use Rattle.thrax_syntax.specs.declared.tree.Tree.{Tree}
-use Rattle.thrax_syntax.specs.Trees.{TreeTerm, terms, tree_term}
-use Rattle.thrax_meaning.specs.Meaning.{Scope, Local, Taken, taken, refused, AllTaken, all_taken, one_refused, meant, meant_each, onto, count, arguments}
+use Rattle.thrax_syntax.specs.Trees.{terms, tree_term}
+use Rattle.thrax_meaning.specs.Meaning.{Scope, Local, taken, refused, AllTaken, all_taken, one_refused, meant, meant_each, onto, count, arguments}
 use Rattle.thrax_meaning.specs.declared.why.Why.{Why}
 
 -- what has been taken, before the rest

@@ -1,11 +1,11 @@
 -- Rules on kinds that are met.
-use Rattle.std.proofs.Common.{◌≡◌, ◌∙◌, refl, sym, ap, true, false, Bool}
+use Rattle.std.proofs.Common.{◌≡◌, ◌∙◌, refl, sym, true, false, Bool}
 use Rattle.std.proofs.lemmas.Bool.{and_parts}
 use Rattle.weighted_relations.specs.Rewriting.{Manner}
 use Rattle.weighted_relations.specs.Expressions.{Expression, rewrite, is_acceptor, is_weighted, is_marked}
 use Rattle.std.specs.Prelude.{not}
 use Rattle.thrax_meaning.specs.Sound.{is_plain_acceptor}
-use Rattle.thrax_meaning.specs.Meaning.{Taken, accepting, unweighted, unmarked, sized, rewrite_of}
+use Rattle.thrax_meaning.specs.Meaning.{Taken, accepting, unweighted, sized, rewrite_of}
 
 not_true : (b : Bool) → not b ≡ true → b ≡ false
 not_true true h = sym h

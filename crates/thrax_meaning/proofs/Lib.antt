@@ -1,6 +1,7 @@
 pub mod KindRules
 pub mod ListRules
 pub mod Scopes
+pub mod Index
 pub mod Quiet
 pub mod Fronts
 pub mod Cuts

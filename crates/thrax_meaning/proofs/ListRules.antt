@@ -1,6 +1,6 @@
 -- What is said of values is said of the union and the concatenation of them.
 use Rattle.std.proofs.Common.{◌≡◌, ◌∙◌, refl, sym, ap, arith, rules, ℕ, zero, suc, ◌+◌, ◌*◌, ◌-◌, ◌<◌, ◌≤◌, List, [], ◌∷◌, ◌++◌, Bool, true, Vec, Global}
-use Rattle.std.specs.Prelude.{map, min, ◌&&◌, replicate}
+use Rattle.std.specs.Prelude.{map, min, replicate}
 use Rattle.std.specs.declared.rc.Rc.{Rc}
 use Rattle.weighted_relations.specs.Expressions.{Expression, union, concat, members, sizes, size as size_of, is_acceptor, is_weighted, is_marked, are_acceptors, some_weighted, some_marked}
 use Rattle.core_expressions.specs.declared.expressions.Expr.{Expr}
@@ -10,7 +10,7 @@ use Rattle.core_expressions.specs.ViewLaws.{of_union, of_concat}
 use Rattle.thrax_meaning.specs.declared.value.Value.{Value}
 use Rattle.thrax_meaning.specs.Answers.{shared_of}
 use Rattle.std.proofs.Math.Nat.{suc-mul}
-use Rattle.thrax_meaning.specs.Meaning.{Taken, refused, taken, sized, maybe, times}
+use Rattle.thrax_meaning.specs.Meaning.{refused, sized, maybe, times}
 use Rattle.thrax_meaning.specs.declared.why.Why.TheVariants.{TooLarge}
 use Rattle.thrax_meaning.specs.Sound.{meets_kinds, meet_kinds}
 

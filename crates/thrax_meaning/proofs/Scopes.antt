@@ -1,9 +1,8 @@
 -- A scope with one entry more.
-use Rattle.std.proofs.Common.{◌≡◌, ◌∙◌, refl, sym, ap, subst, arith, ℕ, ◌+◌, List, [], ◌∷◌, ◌++◌, ◌<◌, ◌≤◌, take, length, get_or, true, false, Bool, length-append, zero, suc, None}
-use Rattle.std.specs.Prelude.{if◌then◌else◌, Some, map, is_some, MatchOption}
-use Rattle.std.specs.declared.option.Option.{Option}
+use Rattle.std.proofs.Common.{◌≡◌, ◌∙◌, refl, sym, ap, arith, ℕ, ◌+◌, List, [], ◌∷◌, ◌++◌, ◌<◌, ◌≤◌, take, length, get_or, true, false, length-append, zero, suc}
+use Rattle.std.specs.Prelude.{if◌then◌else◌, Some}
 use Rattle.std.specs.Str.{bytes_eq}
-use Rattle.std.proofs.lemmas.List.{take_more, take_all}
+use Rattle.std.proofs.lemmas.List.{take_more}
 use Rattle.norm_base.specs.Files.{Files}
 use Rattle.thrax_meaning.specs.Meaning.{Scope, empty, bound, found}
 use Rattle.thrax_meaning.specs.declared.table.Entry.{Entry}
@@ -87,7 +86,3 @@ pub weights_at : (ts : List (List Entry)) (i : ℕ) (t : List Entry) → i < len
 weights_at [] i t h e = absurd (omega (arith, h))
 weights_at (u ∷ us) zero t h e = let same : weight t ≡ weight u = ap weight e in omega (arith, same)
 weights_at (u ∷ us) (suc i) t h e = let more = weights_at us i t (omega (arith, h)) e in omega (arith, more)
-
-pub found_test : {X Y : Type 0} (r : Option X) (m : Option Y) (view : X → Y) → MatchOption r (m ≡ None) (λ x. m ≡ Some (view x)) → is_some r ≡ is_some m
-found_test None m view h = sym (ap is_some h)
-found_test (Some x) m view h = sym (ap is_some h)

@@ -1,5 +1,5 @@
 -- What the entries of a string file stand for, and which values they have.
-use Rattle.std.specs.Prelude.{ℕ, List, [], ◌∷◌, ◌++◌}
+use Rattle.std.specs.Prelude.{ℕ, List, ◌++◌}
 use Rattle.weighted_relations.specs.Expressions.{Expression, text, cross, weighted}
 use Rattle.thrax_meaning.specs.declared.entries.Entry.{Entry}
 use Rattle.thrax_meaning.specs.declared.entries.Entry.TheVariants.{Both, Pair, Weighing}

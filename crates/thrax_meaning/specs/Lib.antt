@@ -2,6 +2,7 @@ pub mod Sound
 pub mod Fields
 pub mod StringFiles
 pub mod Meaning
+pub mod Index
 pub mod Tables
 pub mod Answers
 pub mod Entries

@@ -1,7 +1,7 @@
 -- What a tree means in a scope: its expression, or the first refusal.
 -- A name means its expression, and a call the body with the arguments put in. A function is a map from arguments to
 -- expressions, made where the function is defined, so it can't see itself or what comes later.
-use Rattle.std.specs.Prelude.{ℕ, suc, ◌-◌, ◌==◌, nat_lt, List, [], ◌∷◌, ◌++◌, length, replicate, codes, Bool, true, false, ◌&&◌, ◌||◌, if◌then◌else◌, None, Some}
+use Rattle.std.specs.Prelude.{ℕ, suc, ◌-◌, ◌==◌, nat_lt, List, [], ◌∷◌, ◌++◌, length, replicate, codes, Bool, true, false, if◌then◌else◌, None, Some}
 use Rattle.std.specs.Str.{bytes_eq, is_utf8}
 use Rattle.std.specs.declared.option.Option.{Option}
 use Rattle.norm_base.specs.Files.{Files, file_of}

@@ -1,13 +1,16 @@
 //! The names that a file has defined so far.
 
-ghost use Rattle.std.specs.Prelude.{◌≡◌, ◌<◌, ◌≤◌, ◌+◌, [], ◌∷◌, ◌++◌, OnOk, OnErr, IfSome, MatchOption, Some, None, List, length, take, is_some};
+ghost use Rattle.std.specs.Prelude.{◌≡◌, ◌<◌, ◌≤◌, ◌+◌, [], ◌∷◌, ◌++◌, OnOk, OnErr, IfSome, MatchOption, Some, None, List, ℕ, length, take, is_some};
+ghost use Rattle.std.specs.HashMap.{IsUnchanged};
 ghost use Rattle.norm_base.specs.Files.{Files};
+ghost use Rattle.thrax_meaning.specs.Index.{IsIndex};
 ghost use Rattle.thrax_meaning.specs.Meaning.{found, Scope};
 ghost use Rattle.thrax_meaning.specs.Tables.{scope_of, meaning_of, weight, kind_weight};
 
 use crate::Value;
 use norm_base::Name;
 use std::alloc::{AllocError, Global};
+use std::collections::HashMap;
 use std::marker::Model;
 use std::rc::Rc;
 use thrax_syntax::{Local, Tree};
@@ -44,22 +47,26 @@ pub struct Entry {
     pub kind: Kind,
 }
 
-/// The names that a file has defined so far, in order.
+/// The names that a file has defined so far, in order, with the place of the newest entry of each name.
 #[derive(Drop)]
 pub struct Table {
     entries: Vec<Entry>,
+    places: HashMap<Vec<u8>, usize>,
 }
 
 impl Model for Table {
-    ghost use Rattle.std.specs.Prelude.{List};
+    ghost use Rattle.std.specs.Prelude.{List, map};
     ghost use Rattle.std.specs.Coded.{codes};
     ghost use Rattle.core_expressions.specs.contracts.expressions.Expr as expr;
     ghost use Rattle.thrax_syntax.specs.contracts.tree.Tree as tree;
+    ghost use Rattle.thrax_meaning.specs.Index.{IsIndex};
     ghost use Rattle.thrax_meaning.specs.declared.table.Entry.{Entry};
 
     ghost Value = { List Entry };
 
     ghost view = { λ t. t.entries.items };
+
+    ghost invariant = { λ t. IsIndex t.places (map (λ e. e.name) t.entries.items) };
 
     ghost coded = { Prim.hlevel (codes, expr.the_row.coded, tree.the_row.coded) };
 }
@@ -71,6 +78,7 @@ impl Table {
     {
         Table {
             entries: Vec::new(alloc),
+            places: HashMap::new(alloc),
         }
     }
 
@@ -79,6 +87,11 @@ impl Table {
         ensures ok { OnOk result (self.new ≡ self.old ++ record { name = name; kind = kind } ∷ []) }
         ensures err { OnErr result (self.new ≡ self.old) }
     {
+        let alloc = *self.entries.allocator();
+        let at = self.entries.len();
+        // With room for the entry, nothing can fail once the name has its place.
+        self.entries.reserve(1)?;
+        set_place(alloc, &mut self.places, &name, at)?;
         self.entries.push(Entry { name, kind })?;
         Ok(())
     }
@@ -97,14 +110,18 @@ impl Table {
             (λ r. found (scope_of f done (take count self.now)) name.now ≡ Some (meaning_of f done (scope_of f done (take r.0 self.now)) r.1.now)) }
         ensures before { IfSome result (λ r. (r.0 < count) × (weight (take r.0 self.now) + kind_weight r.1.now ≤ weight (take count self.now))) }
     {
-        find_among(&self.entries, count, name)
+        match self.places.get(name.bytes()) {
+            Some(place) if *place < count => Some((*place, &self.entries[*place].kind)),
+            Some(_) => find_among(&self.entries, count, name),
+            None => None,
+        }
     }
 
     /// Whether a name is defined.
     pub fn is_defined(&self, name: &Name) -> bool
         ensures { (f : Files) → (done : List Scope) → result ≡ is_some (found (scope_of f done self.now) name.now) }
     {
-        is_among(&self.entries, name)
+        self.places.contains_key(name.bytes())
     }
 
     /// The entries, in order.
@@ -113,6 +130,21 @@ impl Table {
     {
         self.entries
     }
+}
+
+/// Gives a name its place, which is behind all others.
+fn set_place(
+    alloc: Global,
+    places: &mut HashMap<Vec<u8>, usize>,
+    name: &Name,
+    at: usize,
+) -> Result<(), AllocError>
+    ensures ok { OnOk result ((names : List (List ℕ)) → at ≡ length names → IsIndex places.old names → IsIndex places.new (names ++ name.now ∷ [])) }
+    ensures err { OnErr result (IsUnchanged places.old places.new) }
+{
+    let key = Vec::from_slice(alloc, name.bytes())?;
+    places.insert(key, at)?;
+    Ok(())
 }
 
 /// What the newest of the first `count` entries of a name is, with its place.
@@ -131,11 +163,4 @@ fn find_among<'a>(entries: &'a [Entry], count: usize, name: &Name) -> Option<(us
         }
     }
     None
-}
-
-/// Whether an entry has this name.
-fn is_among(entries: &[Entry], name: &Name) -> bool
-    ensures { (f : Files) → (done : List Scope) → result ≡ is_some (found (scope_of f done entries.now) name.now) }
-{
-    find_among(entries, entries.len(), name).is_some()
 }

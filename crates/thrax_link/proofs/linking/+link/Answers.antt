@@ -1,12 +1,10 @@
-use Rattle.std.proofs.Common.{◌≡◌, ◌∙◌, ◌++◌, ◌∷◌, ◌+◌, ap, subst, sym, [], length, arith, map, refl, Ok, Err}
-use Rattle.norm_base.specs.Files.{Files}
+use Rattle.std.proofs.Common.{◌≡◌, ◌∙◌, ◌++◌, ◌∷◌, ◌+◌, ap, subst, sym, [], length, arith, map, refl, Ok}
 use Rattle.thrax_meaning.specs.Tables.{scope_over}
 use Rattle.thrax_meaning.specs.Meaning.{empty}
 use Rattle.thrax_meaning.specs.declared.table.Kind.TheVariants as kind
 use Rattle.thrax_syntax.specs.Trees.{statement_term, file_term}
 use Rattle.thrax_link.specs.Linking.{LinksUnder, LinksRead, LinksText, TakesAll, Importing, linked}
 use Rattle.thrax_link.specs.Progress.{finished_of, Sole, Stops}
-use Rattle.thrax_link.proofs.Placed.{of_some, of_none}
 use Rattle.thrax_link.proofs.Soles.{import_adds, adds_within, grown_within, imports_by, text_read, text_unread, read_links, all_more, all_stop, stops_by, sole_is, grows_on}
 use Rattle.thrax_link.proofs.Fronts.{gone}
 use Rattle.thrax_link.proofs.linking.+link.Goals as goal
@@ -22,8 +20,8 @@ add_import-returns-in-Ok-clause-within g t c =
     adds_within (length c.import.new.done.tables.items) c.args.table.now c.add.new.table c.args.alias (kind.File c.in-Ok.place) c.add.result
     (grown_within c.args.done.now c.import.new.done c.args.table.now c.in-Ok.ensures.grows c.requires.within) c.in-Ok.ensures.within c.add.ensures.ok
 
-pub import-returns-in-Ok-Some-clause-within : goal.import-returns-in-Ok-Some-clause-within
-import-returns-in-Ok-Some-clause-within g t c = (of_some c.in-Ok-Some.field-0 c.in-Ok-Some.place _ _ c.in-Ok-Some.field-0-is (c.in-Ok-Some.ensures [])).0
+pub import-returns-in-Some-clause-within : goal.import-returns-in-Some-clause-within
+import-returns-in-Some-clause-within g t c = (c.in-Some.ensures []).0
 
 pub link_statements-returns-clause-links : goal.link_statements-returns-clause-links
 link_statements-returns-clause-links g t c = λ known told.

@@ -1,4 +1,3 @@
-use Rattle.std.proofs.Common.{◌≡◌}
 use Rattle.thrax_link.proofs.Fronts.{exports_more, exports_same}
 use Rattle.thrax_link.proofs.linking.exported.Goals as goal
 

@@ -1,7 +1,6 @@
 use Rattle.std.proofs.Common.{◌≡◌, ◌∙◌, ap, subst, sym, ℕ, Vec, Global, option_map, IfSome}
 use Rattle.std.specs.Str.{IsUtf8}
 use Rattle.norm_base.specs.Files.{file_of}
-use Rattle.thrax_link.specs.Linking.{named_file}
 use Rattle.thrax_link.proofs.Texts.{no_text, text_file}
 use Rattle.thrax_link.proofs.linking.fetch.Goals as goal
 

@@ -1,4 +1,4 @@
-use Rattle.std.proofs.Common.{◌≡◌, ◌∙◌, ap, sym, take}
+use Rattle.std.proofs.Common.{◌∙◌, ap, sym, take}
 use Rattle.thrax_meaning.specs.Tables.{scopes_of}
 use Rattle.thrax_link.specs.Exports.{exports_of}
 use Rattle.thrax_link.specs.Linking.{exports}

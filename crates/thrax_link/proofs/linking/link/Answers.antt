@@ -1,4 +1,4 @@
-use Rattle.std.proofs.Common.{◌≡◌, ◌∙◌, Ok, Err}
+use Rattle.std.proofs.Common.{◌∙◌, Ok, Err}
 use Rattle.thrax_link.specs.Progress.{finished_of}
 use Rattle.thrax_link.proofs.Outcomes.{starts, stopped_linked, stopped_only, granted_linked, granted_only, granted_sound}
 use Rattle.thrax_link.proofs.linking.link.Goals as goal

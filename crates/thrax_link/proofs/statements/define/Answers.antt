@@ -1,5 +1,4 @@
-use Rattle.std.proofs.Common.{◌≡◌, ◌∙◌, ap, subst, sym, [], length}
-use Rattle.core_expressions.specs.Views.{expression_of}
+use Rattle.std.proofs.Common.{◌∙◌, ap, sym, [], length}
 use Rattle.thrax_meaning.specs.Meaning.{meant}
 use Rattle.thrax_meaning.specs.Tables.{scope_over}
 use Rattle.thrax_meaning.specs.declared.table.Kind.TheVariants as kind

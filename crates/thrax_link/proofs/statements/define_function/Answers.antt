@@ -1,4 +1,4 @@
-use Rattle.std.proofs.Common.{◌≡◌, ◌∙◌, ◌++◌, ap, sym, [], length, option_map}
+use Rattle.std.proofs.Common.{◌∙◌, ◌++◌, ap, sym, [], length, option_map}
 use Rattle.thrax_meaning.specs.declared.table.Kind.TheVariants as kind
 use Rattle.thrax_link.specs.Linking.{repeated}
 use Rattle.thrax_link.proofs.Repeats.{names}

@@ -1,4 +1,4 @@
-use Rattle.std.proofs.Common.{◌≡◌, ◌∙◌, ap, sym}
+use Rattle.std.proofs.Common.{◌∙◌, ap, sym}
 use Rattle.std.specs.Prelude.{is_some, ◌||◌}
 use Rattle.thrax_meaning.specs.Meaning.{built_in}
 use Rattle.thrax_link.proofs.statements.is_used.Goals as goal

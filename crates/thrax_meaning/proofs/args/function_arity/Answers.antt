@@ -1,4 +1,4 @@
-use Rattle.std.proofs.Common.{◌≡◌, ◌∙◌, sym, ap, subst, rules, length}
+use Rattle.std.proofs.Common.{◌≡◌, sym, subst, rules, length}
 use Rattle.thrax_meaning.specs.declared.why.Why.TheVariants.{Arity}
 use Rattle.thrax_meaning.specs.Answers.{Gives}
 use Rattle.thrax_meaning.specs.Meaning.{refused}

@@ -1,7 +1,5 @@
-use Rattle.std.proofs.Common.{◌≡◌, ◌∙◌, sym, ap, subst, length}
-use Rattle.thrax_meaning.specs.declared.why.Why.TheVariants.{Arity}
+use Rattle.std.proofs.Common.{sym, subst}
 use Rattle.thrax_meaning.specs.Answers.{Gives}
-use Rattle.thrax_meaning.specs.Meaning.{refused}
 use Rattle.thrax_meaning.proofs.CallRules.{project_other}
 use Rattle.thrax_meaning.proofs.args.project_arity.Goals as goal
 

@@ -1,4 +1,4 @@
-use Rattle.std.proofs.Common.{◌≡◌, ◌∙◌, sym, ap, subst, arith, ◌+◌, ◌<◌, ◌++◌, [], ◌∷◌, length}
+use Rattle.std.proofs.Common.{◌∙◌, sym, ap, arith, ◌+◌, ◌<◌, ◌++◌, [], ◌∷◌, length}
 use Rattle.std.proofs.lemmas.Bool.{eqb-false}
 use Rattle.text_lines.specs.Lines.{lines}
 use Rattle.thrax_meaning.specs.StringFiles.{entries_from}

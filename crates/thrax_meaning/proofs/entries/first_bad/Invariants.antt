@@ -1,4 +1,4 @@
-use Rattle.std.proofs.Common.{◌≡◌, ◌+◌, ◌≤◌, ℕ, List, length}
+use Rattle.std.proofs.Common.{◌≡◌, ◌+◌, ◌≤◌, List, length}
 use Rattle.weighted_relations.specs.Expressions.{Expression}
 use Rattle.text_lines.specs.Lines.{lines}
 use Rattle.thrax_meaning.specs.StringFiles.{entries_from}

@@ -1,4 +1,4 @@
-use Rattle.std.proofs.Common.{◌≡◌, ◌∙◌, sym, ap, subst, arith, ℕ, ◌+◌, ◌<◌, ◌≤◌, ◌++◌, [], ◌∷◌, length, map, Some}
+use Rattle.std.proofs.Common.{◌≡◌, ◌∙◌, sym, ap, subst, arith, ◌+◌, ◌<◌, ◌≤◌, ◌++◌, [], ◌∷◌, length, map, Some}
 use Rattle.std.proofs.lemmas.Bool.{eqb-false}
 use Rattle.weighted_relations.specs.Expressions.{members, sizes, size as size_of}
 use Rattle.thrax_meaning.specs.declared.value.Value.{Value}

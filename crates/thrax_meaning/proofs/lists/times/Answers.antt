@@ -1,5 +1,4 @@
-use Rattle.std.proofs.Common.{◌≡◌, ◌+◌, ◌*◌, ◌-◌, arith, rules}
-use Rattle.weighted_relations.specs.Expressions.{size as size_of}
+use Rattle.std.proofs.Common.{◌≡◌, rules}
 use Rattle.thrax_meaning.specs.Answers.{shared_of}
 use Rattle.thrax_meaning.proofs.ListRules.{times_too_large}
 use Rattle.thrax_meaning.proofs.lists.times.Goals as goal

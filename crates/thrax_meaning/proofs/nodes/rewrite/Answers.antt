@@ -1,5 +1,5 @@
-use Rattle.std.proofs.Common.{◌≡◌, ◌∙◌, sym, subst, ap, true, false, rules}
-use Rattle.core_expressions.specs.Views.{manner_of, expression_of}
+use Rattle.std.proofs.Common.{◌≡◌, sym, subst, true, false, rules}
+use Rattle.core_expressions.specs.Views.{manner_of}
 use Rattle.thrax_meaning.specs.Answers.{Gives, shared_of}
 use Rattle.thrax_meaning.specs.Sound.{is_plain_acceptor}
 use Rattle.weighted_relations.specs.Expressions.{is_marked}

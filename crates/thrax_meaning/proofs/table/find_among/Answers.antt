@@ -1,4 +1,4 @@
-use Rattle.std.proofs.Common.{◌≡◌, ◌∙◌, sym, arith, rules, true, false, ◌-◌, ◌+◌, ◌<◌, ◌≤◌, length, take}
+use Rattle.std.proofs.Common.{◌≡◌, ◌∙◌, sym, arith, true, false, ◌-◌}
 use Rattle.std.specs.Str.{bytes_eq}
 use Rattle.thrax_meaning.proofs.Scopes.{found_here, found_before, weight_next}
 use Rattle.thrax_meaning.proofs.table.find_among.Goals as goal

@@ -1,4 +1,4 @@
-use Rattle.std.proofs.Common.{◌≡◌, ◌≤◌, ℕ, List, length, take}
+use Rattle.std.proofs.Common.{◌≡◌, ◌≤◌, List, take}
 use Rattle.norm_base.specs.Files.{Files}
 use Rattle.thrax_meaning.specs.Meaning.{Scope, found}
 use Rattle.thrax_meaning.specs.Tables.{scope_of, weight}

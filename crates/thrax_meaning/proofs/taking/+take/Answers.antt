@@ -1,4 +1,4 @@
-use Rattle.std.proofs.Common.{◌≡◌, ◌∙◌, sym, subst, arith}
+use Rattle.std.proofs.Common.{sym, subst, arith}
 use Rattle.thrax_meaning.specs.Answers.{Gives}
 use Rattle.thrax_meaning.specs.Tables.{scope_at, locals_at}
 use Rattle.thrax_meaning.proofs.CallRules.{rewrite_some}

@@ -1,4 +1,4 @@
-use Rattle.std.proofs.Common.{◌≡◌, arith}
+use Rattle.std.proofs.Common.{arith}
 use Rattle.thrax_meaning.proofs.Bindings.{more_full, more_bound}
 use Rattle.thrax_meaning.proofs.taking.bound.Goals as goal
 

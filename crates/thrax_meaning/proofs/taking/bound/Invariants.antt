@@ -1,4 +1,4 @@
-use Rattle.std.proofs.Common.{◌≡◌, map, length}
+use Rattle.std.proofs.Common.{◌≡◌, map}
 use Rattle.thrax_meaning.specs.Answers.{shared_of}
 use Rattle.thrax_meaning.specs.Meaning.{bind}
 use Rattle.thrax_meaning.specs.Tables.{local_of}

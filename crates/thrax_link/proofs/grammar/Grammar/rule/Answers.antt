@@ -1,4 +1,3 @@
-use Rattle.std.proofs.Common.{◌≡◌}
 use Rattle.thrax_link.proofs.Soundness.{is_sound}
 use Rattle.thrax_link.proofs.grammar.Grammar.rule.Goals as goal
 

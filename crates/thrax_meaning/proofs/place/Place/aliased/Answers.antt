@@ -1,8 +1,7 @@
-use Rattle.std.proofs.Common.{◌≡◌, ◌∙◌, sym, ap, arith, rules, ◌+◌, ◌<◌, ◌≤◌, length, take, get_or, Some}
+use Rattle.std.proofs.Common.{◌≡◌, ◌∙◌, sym, ap, arith, rules, take, get_or}
 use Rattle.std.proofs.lemmas.List.{take_all}
-use Rattle.norm_base.specs.Files.{Files}
-use Rattle.thrax_meaning.specs.Meaning.{found, names_of, file, empty}
-use Rattle.thrax_meaning.specs.Tables.{scope_at, scope_of, scopes_of, weight, weights}
+use Rattle.thrax_meaning.specs.Meaning.{found, names_of, empty}
+use Rattle.thrax_meaning.specs.Tables.{scope_at, scope_of, scopes_of, weight}
 use Rattle.thrax_meaning.proofs.Scopes.{scopes_at, scopes_past, weights_at}
 use Rattle.thrax_meaning.proofs.place.Place.aliased.Goals as goal
 
