@@ -5,7 +5,7 @@ ghost use Rattle.std.specs.List.{filter};
 ghost use Rattle.std.specs.List.Sorted.{IsNonDecreasingBy};
 ghost use Rattle.fst_core.specs.Top.{top_of};
 ghost use Rattle.compose_filter.specs.Combinations.{combinations};
-ghost use Rattle.compose_filter.specs.Sorted.{IsReordered};
+ghost use Rattle.compose_filter.specs.Sorted.{HasSortedRows, IsReordered};
 
 use crate::filters::{Filter, Move};
 use crate::matches::{all_moves, reading};
@@ -53,6 +53,14 @@ impl ByInput {
         ensures value { result.now ≡ self.now }
     {
         &self.fst
+    }
+
+    /// The transducer, given away.
+    pub fn into_fst(self) -> Fst
+        ensures value { result ≡ self }
+        ensures sorted { HasSortedRows result }
+    {
+        self.fst
     }
 
     /// The arcs of a state that read a label.

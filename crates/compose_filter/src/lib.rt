@@ -31,7 +31,7 @@ pub use by_inputs::ByInput;
 pub use composes::compose;
 pub use filters::{Filter, Move, Taken};
 pub use laws::one_composed_path;
-pub use matches::moves;
+pub use matches::{moves, reading};
 pub use triples::Triple;
 
 #[cfg(test)]

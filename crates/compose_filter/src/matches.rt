@@ -63,8 +63,8 @@ fn is_sorted(row: &[Arc]) -> bool
     row.is_sorted_by(|y, z| y.input <= z.input)
 }
 
-/// The arcs that read a label, of arcs in the order of their inputs.
-pub(crate) fn reading(row: &[Arc], label: u16) -> &[Arc]
+/// The arcs that read a label, of arcs in the order of their inputs. It takes time in the logarithm of their number.
+pub fn reading(row: &[Arc], label: u16) -> &[Arc]
     requires sorted { IsNonDecreasingBy (λ y. y.input) row.now }
     ensures exact { result.now ≡ filter (λ y. y.input == label) row.now }
 {

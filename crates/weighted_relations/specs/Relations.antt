@@ -95,6 +95,12 @@ pub record Composed (R S : Relation) (x y : List ℕ) (w : ℕ) : Type 0 where
   pub first : R x middle w1
   pub second : S middle y w2
 
+-- Relations one after another, each one's input the output of the one before it. Of none there is no reading.
+abbrev pub Cascade : {A : Type 0} → (A → Relation) → List A → Relation
+Cascade R [] = Nothing
+Cascade R (a ∷ []) = R a
+Cascade R (a ∷ b ∷ rest) = Composed (R a) (Cascade R (b ∷ rest))
+
 -- the readings of R whose string S doesn't accept
 pub record Without (R S : Relation) (x y : List ℕ) (w : ℕ) : Type 0 where
   pub reads : R x y w

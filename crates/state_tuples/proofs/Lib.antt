@@ -1,0 +1,13 @@
+pub mod Rows
+pub mod Padded
+pub mod FewTuples
+pub mod StepMoves
+pub mod Places
+pub mod ClosedTuples
+pub mod PartReadings
+pub mod TuplePaths
+pub mod Readers
+pub mod Counted
+pub mod Lists
+pub mod Staged
+pub mod Arranged

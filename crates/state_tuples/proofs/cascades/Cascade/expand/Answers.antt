@@ -1,0 +1,13 @@
+use Rattle.std.proofs.Common.{subst}
+use Rattle.state_tuples.specs.Cascades.{moves_of}
+use Rattle.state_tuples.specs.Orders.{Ordered}
+use Rattle.state_tuples.proofs.Staged.{every_one}
+use Rattle.state_tuples.proofs.cascades.Cascade.expand.Goals as goal
+
+pub returns : goal.returns
+returns c = record {
+  expansion = record {
+    arcs = subst (λ xs. Ordered xs c.put_moves.new.into.items) (every_one (moves_of c.args.self.now c.args.t.now)) c.in_ok-put_moves.ensures;
+    finality = c.end_at-finality.ensures;
+  };
+}

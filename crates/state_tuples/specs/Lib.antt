@@ -1,0 +1,9 @@
+pub mod Positions
+pub mod Cascades
+pub mod Kept
+pub mod Stages
+pub mod Expansions
+pub mod Orders
+pub mod Calls
+pub mod Bounds
+pub mod OneCascade

@@ -1,0 +1,148 @@
+// A cascade.
+
+ghost use Rattle.std.specs.Prelude.{◌≡◌, ◌<◌, ◌≤◌, All, IsTrue, get_or, length, []};
+ghost use Rattle.compose_filter.specs.ComposedPaths.{starts};
+ghost use Rattle.std.specs.List.Sorted.{IsNonDecreasingBy};
+ghost use Rattle.compose_filter.specs.Sorted.{HasSortedRows};
+ghost use Rattle.weighted_relations.specs.Machines.{WellFormed, final_of};
+ghost use Rattle.state_tuples.specs.Positions.{back, padded};
+ghost use Rattle.state_tuples.specs.Cascades.{IsOf, IsSound, first_tuple, no_part};
+
+use crate::tuples::Tuple;
+use fst_core::{Arc, Fst};
+use std::marker::Model;
+
+/// One to four transducers, each of which reads what the one before it writes, with a number that tells the cascade from others.
+///
+/// It keeps whether the arcs of each state of each part stand in the order of their inputs. Where they do, those that read a label
+/// are found by a search.
+#[derive(Drop)]
+pub struct Cascade {
+    number: u32,
+    pub(crate) parts: Vec<Fst>,
+    is_sorted: bool,
+}
+
+impl Model for Cascade {
+    ghost use Rattle.state_tuples.specs.Cascades.{Cascaded};
+    ghost use Rattle.state_tuples.specs.Kept.{IsKept};
+
+    ghost Value = { Cascaded };
+
+    ghost view = { λ c. record { number = c.number; parts = c.parts.items } };
+
+    ghost invariant = { λ c. IsKept (record { number = c.number; parts = c.parts.items }) c.is_sorted };
+}
+
+impl Cascade {
+    /// The cascade of these parts, from the first to the last.
+    pub fn new(number: u32, parts: Vec<Fst>) -> Cascade
+        requires some { 0 < length parts.items }
+        requires few { length parts.items ≤ 4 }
+        ensures value { result ≡ record { number = number; parts = parts.items } }
+    {
+        let is_sorted = all_sorted(&parts);
+        Cascade {
+            number,
+            parts,
+            is_sorted,
+        }
+    }
+
+    /// Its number.
+    pub fn number(&self) -> u32
+        ensures value { result ≡ self.now.number }
+    {
+        self.number
+    }
+
+    /// The number of its parts.
+    pub(crate) fn part_count(&self) -> usize
+        ensures value { result ≡ length self.now.parts }
+        ensures sound { IsSound self.now }
+    {
+        self.parts.len()
+    }
+
+    /// Whether the arcs of each state of each part stand in the order of their inputs.
+    pub(crate) fn is_sorted(&self) -> bool
+        ensures { IsTrue result → All HasSortedRows self.now.parts }
+    {
+        self.is_sorted
+    }
+
+    /// The arcs of the part at a place, at one of its states.
+    pub(crate) fn row(&self, place: usize, state: usize) -> &[Arc]
+        requires place { place < length self.now.parts }
+        requires state { state < length (get_or self.now.parts place no_part).arcs }
+        ensures { result.now ≡ get_or (get_or self.now.parts place no_part).arcs state [] }
+    {
+        self.parts[place].arcs_of(state)
+    }
+
+    /// The final weight of a state of the part at a place.
+    pub(crate) fn final_at(&self, place: usize, state: usize) -> Option<u64>
+        requires place { place < length self.now.parts }
+        requires state { state < length (get_or self.now.parts place no_part).arcs }
+        ensures { result ≡ final_of (get_or self.now.parts place no_part).finals state }
+    {
+        self.parts[place].final_of(state)
+    }
+
+    /// The tuple where all parts start.
+    pub fn start(&self) -> Tuple
+        ensures value { result ≡ first_tuple self.now }
+        ensures known { IsOf self.now result }
+        ensures sound { IsSound self.now }
+    {
+        let states = starts_of(&self.parts);
+        Tuple {
+            cascade: self.number,
+            states,
+            filters: 0,
+        }
+    }
+}
+
+/// Whether the arcs of each state of each part stand in the order of their inputs.
+fn all_sorted(parts: &[Fst]) -> bool
+    ensures sound { All WellFormed parts.now }
+    ensures sorted { IsTrue result → All HasSortedRows parts.now }
+{
+    let mut sorted = true;
+    for part in parts {
+        sorted = rows_sorted(part) && sorted;
+    }
+    sorted
+}
+
+fn rows_sorted(part: &Fst) -> bool
+    ensures sound { WellFormed part.now }
+    ensures sorted { IsTrue result → HasSortedRows part.now }
+{
+    let _start = part.start();
+    for s in 0..part.len() {
+        if !row_sorted(part.arcs_of(s)) {
+            return false;
+        }
+    }
+    true
+}
+
+fn row_sorted(row: &[Arc]) -> bool
+    ensures { IsTrue result → IsNonDecreasingBy (λ y. y.input) row.now }
+{
+    row.is_sorted_by(|y, z| y.input <= z.input)
+}
+
+/// Where the parts start, with zeros after them.
+fn starts_of(parts: &[Fst]) -> [usize; 4]
+    requires few { length parts.now ≤ 4 }
+    ensures { result ≡ padded (starts (back no_part parts.now (length parts.now))) }
+{
+    let mut states = [0; 4];
+    for k in 0..parts.len() {
+        states[k] = parts[k].start();
+    }
+    states
+}
