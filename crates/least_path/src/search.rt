@@ -1,11 +1,11 @@
 // The search: the first entry is settled next.
 
-ghost use Rattle.std.specs.Prelude.{◌≡◌, ◌<◌, IfOk, All, option_map};
+ghost use Rattle.std.specs.Prelude.{◌≡◌, IfOk, option_map};
 ghost use Rattle.weighted_relations.specs.Relations.{IsUnmarked};
 ghost use Rattle.weighted_relations.specs.Machines.{Reads};
 ghost use Rattle.weighted_relations.specs.Least.{Least as LeastOf};
 
-use crate::answers::Least;
+use crate::answers::{Least, bytes_of};
 use crate::entries::{Entry, Place, is_settled};
 use crate::firsts::take_first;
 use crate::settling::Search;
@@ -45,16 +45,4 @@ pub fn least_of(alloc: Global, rule: &Fst, line: &[u8]) -> Result<Option<Least>,
         }
     }
     Ok(None)
-}
-
-/// The bytes of labels that are no marks.
-fn bytes_of(alloc: Global, labels: &[u16]) -> Result<Vec<u8>, AllocError>
-    requires { All (λ n. n < 256) labels.now }
-    ensures { IfOk result (λ v. v.items ≡ labels.now) }
-{
-    let mut bytes = Vec::with_capacity(alloc, labels.len())?;
-    for n in labels {
-        bytes.push(*n as u8)?;
-    }
-    Ok(bytes)
 }

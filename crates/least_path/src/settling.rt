@@ -1,6 +1,6 @@
 // What a search keeps, and its step.
 
-ghost use Rattle.std.specs.Prelude.{◌≡◌, ◌<◌, ◌≤◌, ◌+◌, ◌^◌, ◌++◌, ◌∷◌, [], ℕ, List, IfOk, OnOk, MatchOption, Some, length, drop, get_or};
+ghost use Rattle.std.specs.Prelude.{◌≡◌, ◌<◌, ◌≤◌, ◌+◌, ◌^◌, ◌++◌, ◌∷◌, [], ℕ, List, OnOk, MatchOption, Some, length, drop, get_or};
 ghost use Rattle.weighted_relations.specs.Graphs.{label};
 ghost use Rattle.weighted_relations.specs.Machines.{graph};
 ghost use Rattle.weighted_relations.specs.SearchPaths.{Along};

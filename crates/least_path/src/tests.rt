@@ -1,21 +1,27 @@
 // Small transducers with lines, and their least readings worked out by hand.
 
-ghost use Rattle.std.specs.Prelude.{◌≡◌, IsTrue, IfOk, All};
+ghost use Rattle.std.specs.Prelude.{◌∷◌, [], IsTrue, IfOk, All};
 ghost use Rattle.weighted_relations.specs.Relations.{IsAcceptor, IsLabel, IsUnmarked};
 ghost use Rattle.weighted_relations.specs.Machines.{Reads};
+ghost use Rattle.state_tuples.specs.Cascades.{first_tuple};
+ghost use Rattle.least_path.specs.Starting.{WritesBytes};
 
-use crate::{Least, least_of};
+use crate::{Least, least, least_of};
 use fst_core::{Fst, concat, cross, star, text, union, weighted};
+use state_tuples::{Cascade, Private};
 use std::alloc::{AllocError, Global};
 use std::process::Abort;
 use std::test::Fail;
 
-/// The labels of a text, without its bytes 0.
-fn labels_of(alloc: Global, word: &str) -> Result<Vec<u16>, AllocError>
+mod agreement;
+mod giving_up;
+
+/// The labels of a line, without its bytes 0.
+fn labels_of(alloc: Global, line: &[u8]) -> Result<Vec<u16>, AllocError>
     ensures { IfOk result (λ v. All IsLabel v.items) }
 {
     let mut labels = Vec::new(alloc);
-    for b in word.as_bytes() {
+    for b in line {
         if *b != 0 {
             labels.push(*b as u16)?;
         }
@@ -23,16 +29,20 @@ fn labels_of(alloc: Global, word: &str) -> Result<Vec<u16>, AllocError>
     Ok(labels)
 }
 
-/// `"word"`
-fn plain(alloc: Global, word: &str) -> Result<Fst, AllocError>
+/// `"line"`
+fn plain(alloc: Global, line: &[u8]) -> Result<Fst, AllocError>
     ensures { IfOk result (λ m. IsAcceptor (Reads m)) }
 {
-    text(alloc, &labels_of(alloc, word)?)
+    text(alloc, &labels_of(alloc, line)?)
 }
 
 /// `("input" : "output") <weight>`
 fn pair(alloc: Global, input: &str, output: &str, weight: u32) -> Result<Fst, AllocError> {
-    let crossed = cross(alloc, &plain(alloc, input)?, &plain(alloc, output)?)?;
+    let crossed = cross(
+        alloc,
+        &plain(alloc, input.as_bytes())?,
+        &plain(alloc, output.as_bytes())?,
+    )?;
     weighted(alloc, &crossed, weight)
 }
 
@@ -97,13 +107,36 @@ fn answer_of(alloc: Global, want: Option<(u128, &str)>) -> Result<Option<Least>,
     }
 }
 
-/// Compares the answer to a case.
+/// The cascade of one part.
+fn cascade_of(alloc: Global, rule: Fst) -> Result<Cascade, AllocError>
+    requires { IsUnmarked (Reads rule) }
+    ensures { IfOk result (λ c. WritesBytes (c ∷ []) (first_tuple c)) }
+{
+    let mut parts = Vec::new(alloc);
+    parts.push(rule)?;
+    Ok(Cascade::new(3, parts))
+}
+
+/// The least reading of a cascade at the inputs of a source.
+fn least_at(alloc: Global, source: &Fst, cascade: &Cascade) -> Result<Option<Least>, AllocError>
+    requires { WritesBytes (cascade.now ∷ []) (first_tuple cascade.now) }
+{
+    let mut x = Private::new(alloc, cascade);
+    least(alloc, source, &mut x, &cascade.start())
+}
+
+/// Compares the answers of both searches to a case. A line with a byte 0 is no source.
 fn check_case(rt: &impl Abort, alloc: Global, case: &Case) -> Result<(), Fail> {
     let (heads, stars, tails, line, want) = *case;
     let rule = rule_of(alloc, heads, stars, tails)?;
     assert!(rt; has_no_mark(&rule));
     let answer = least_of(alloc, &rule, line.as_bytes())?;
     assert_eq!(rt; answer, answer_of(alloc, want)?, "at {line:?}");
+    if !line.as_bytes().contains(&0) {
+        let cascade = cascade_of(alloc, rule)?;
+        let answer = least_at(alloc, &plain(alloc, line.as_bytes())?, &cascade)?;
+        assert_eq!(rt; answer, answer_of(alloc, want)?, "at {line:?}");
+    }
     Ok(())
 }
 
@@ -186,13 +219,13 @@ fn reads_a_long_line(rt: HostRuntime) -> Result<(), Fail> {
     // one `a` alone and 1,500 twos: the one first, since `b` comes before `c`
     let mut output = vec![in alloc; b'b'; 1]?;
     output.extend_from_slice(&vec![in alloc; b'c'; 1500]?)?;
-    let answer = least_of(alloc, &rule, &line)?;
-    assert_eq!(rt;
-        answer,
-        Some(Least {
-            weight: 1501,
-            output
-        })
-    );
+    let want = Some(Least {
+        weight: 1501,
+        output,
+    });
+    assert!(rt; least_of(alloc, &rule, &line)? == want);
+    let source = plain(alloc, &line)?;
+    let cascade = cascade_of(alloc, rule)?;
+    assert!(rt; least_at(alloc, &source, &cascade)? == want);
     Ok(())
 }

@@ -1,0 +1,194 @@
+// Outputs by back references: each is another one and one label more.
+
+ghost use Rattle.std.specs.Prelude.{◌≡◌, ◌<◌, ◌++◌, ◌∷◌, ◌↔◌, ℕ, List, [], IsTrue, IfOk, IfSome, length};
+ghost use Rattle.weighted_relations.specs.Least.{BytesBelow};
+ghost use Rattle.weighted_relations.specs.Graphs.{label as written};
+ghost use Rattle.least_path.specs.Texts.{texts, text_of, IsMade, Grows};
+
+use std::alloc::{AllocError, Global};
+use std::marker::Model;
+
+/// The last label of an output, and the output before it.
+#[derive(Clone, Copy)]
+pub(crate) struct Letter {
+    pub(crate) before: usize,
+    pub(crate) label: u16,
+}
+
+/// The outputs that are one label longer than one: the first, and the next beside it. 0 is none.
+#[derive(Clone, Copy)]
+struct Link {
+    longer: usize,
+    beside: usize,
+}
+
+/// Outputs by number. 0 is the empty one, and the letter at k is the last of number k + 1. The
+/// links only help to find an output that is known.
+#[derive(Drop)]
+pub(crate) struct Outputs {
+    letters: Vec<Letter>,
+    links: Vec<Link>,
+}
+
+impl Model for Outputs {
+    ghost use Rattle.std.specs.Prelude.{ℕ, List};
+    ghost use Rattle.least_path.specs.Texts.{texts, IsMade};
+
+    ghost Value = { List (List ℕ) };
+
+    ghost view = { λ o. texts o.letters.items };
+
+    ghost invariant = { λ o. IsMade o.letters.items };
+}
+
+impl Outputs {
+    /// The empty output alone.
+    pub fn new(alloc: Global) -> Outputs
+        ensures { result ≡ [] ∷ [] }
+    {
+        Outputs {
+            letters: Vec::new(alloc),
+            links: Vec::new(alloc),
+        }
+    }
+
+    /// The number of an output with one label more; the empty label adds nothing.
+    pub fn more(&mut self, at: usize, label: u16) -> Result<usize, AllocError>
+        requires { at < length self.old }
+        ensures number { IfOk result (λ n. n < length self.new) }
+        ensures text { IfOk result (λ n. text_of self.new n ≡ text_of self.old at ++ written label []) }
+        ensures grows { Grows self.old self.new }
+    {
+        if label == 0 {
+            return Ok(at);
+        }
+        if let Some(known) = find(&self.letters, &self.links, at, label) {
+            return Ok(known);
+        }
+        let number = add(&mut self.letters, at, label)?;
+        note_longer(&mut self.links, at, number)?;
+        Ok(number)
+    }
+
+    /// Whether an output is no greater than another of the same length.
+    pub fn is_below(&self, a: usize, b: usize) -> bool
+        requires first { a < length self.now }
+        requires second { b < length self.now }
+        requires even { length (text_of self.now a) ≡ length (text_of self.now b) }
+        ensures { IsTrue result ↔ BytesBelow (text_of self.now a) (text_of self.now b) }
+    {
+        is_below(&self.letters, a, b)
+    }
+
+    /// The labels of an output.
+    pub fn labels(&self, alloc: Global, number: usize) -> Result<Vec<u16>, AllocError>
+        requires { number < length self.now }
+        ensures { IfOk result (λ v. v.items ≡ text_of self.now number) }
+    {
+        labels(alloc, &self.letters, number)
+    }
+}
+
+/// Adds an output.
+fn add(letters: &mut Vec<Letter>, at: usize, label: u16) -> Result<usize, AllocError>
+    requires made { IsMade letters.old.items }
+    requires at { at < length (texts letters.old.items) }
+    ensures made { IsMade letters.new.items }
+    ensures number { IfOk result (λ n. n < length (texts letters.new.items)) }
+    ensures text { IfOk result (λ n. text_of (texts letters.new.items) n ≡ text_of (texts letters.old.items) at ++ label ∷ []) }
+    ensures grows { Grows (texts letters.old.items) (texts letters.new.items) }
+{
+    letters.push(Letter { before: at, label })?;
+    Ok(letters.len())
+}
+
+/// Notes a new output beside those that are as long.
+fn note_longer(links: &mut Vec<Link>, at: usize, number: usize) -> Result<(), AllocError> {
+    for _ in links.len()..number {
+        links.push(Link {
+            longer: 0,
+            beside: 0,
+        })?;
+    }
+    let beside = match links.get(at) {
+        Some(link) => link.longer,
+        None => 0,
+    };
+    links.push(Link { longer: 0, beside })?;
+    if let Some(link) = links.get_mut(at) {
+        link.longer = number;
+    }
+    Ok(())
+}
+
+/// The output that goes on from this one with this label, if it is known.
+fn find(letters: &[Letter], links: &[Link], at: usize, label: u16) -> Option<usize>
+    requires { IsMade letters.now }
+    ensures number { IfSome result (λ n. n < length (texts letters.now)) }
+    ensures text { IfSome result (λ n. text_of (texts letters.now) n ≡ text_of (texts letters.now) at ++ label ∷ []) }
+{
+    let mut number = match links.get(at) {
+        Some(link) => link.longer,
+        None => 0,
+    };
+    while number > 0 && number <= letters.len() {
+        let letter = letters[number - 1];
+        if letter.before == at && letter.label == label {
+            return Some(number);
+        }
+        let next = match links.get(number) {
+            Some(link) => link.beside,
+            None => 0,
+        };
+        if next >= number {
+            return None;
+        }
+        number = next;
+    }
+    None
+}
+
+/// Whether an output is no greater than another of the same length.
+fn is_below(letters: &[Letter], a: usize, b: usize) -> bool
+    requires made { IsMade letters.now }
+    requires first { a < length (texts letters.now) }
+    requires second { b < length (texts letters.now) }
+    requires even { length (text_of (texts letters.now) a) ≡ length (text_of (texts letters.now) b) }
+    ensures { IsTrue result ↔ BytesBelow (text_of (texts letters.now) a) (text_of (texts letters.now) b) }
+{
+    let mut x = a;
+    let mut y = b;
+    let mut below = true;
+    while x != y {
+        let left = letters[x - 1];
+        let right = letters[y - 1];
+        below = decide(left.label, right.label, below);
+        x = left.before;
+        y = right.before;
+    }
+    below
+}
+
+/// How two texts compare, from their first labels and how the rest compares.
+fn decide(left: u16, right: u16, below: bool) -> bool
+    ensures { (s t : List ℕ) → (IsTrue below ↔ BytesBelow s t) → IsTrue result ↔ BytesBelow (left ∷ s) (right ∷ t) }
+{
+    if left != right { left < right } else { below }
+}
+
+/// The labels of an output.
+fn labels(alloc: Global, letters: &[Letter], number: usize) -> Result<Vec<u16>, AllocError>
+    requires made { IsMade letters.now }
+    requires number { number < length (texts letters.now) }
+    ensures { IfOk result (λ v. v.items ≡ text_of (texts letters.now) number) }
+{
+    let mut labels = Vec::new(alloc);
+    let mut at = number;
+    while at > 0 {
+        let letter = letters[at - 1];
+        labels.push(letter.label)?;
+        at = letter.before;
+    }
+    labels.reverse();
+    Ok(labels)
+}

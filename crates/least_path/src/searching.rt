@@ -1,0 +1,60 @@
+// The search over a source and the tuples of an expander.
+
+ghost use Rattle.std.specs.Prelude.{IfOk, OnErr, OnOk, option_map};
+ghost use Rattle.least_path.specs.Starting.{IsLeastFrom, IsStart, StopsAfter, WritesBytes};
+
+use crate::answers::{Least, bytes_of};
+use crate::expanding::expand;
+use crate::node::Node;
+use crate::queue::Entry;
+use crate::reaching::Search;
+use fst_core::Fst;
+use state_tuples::{Expander, Tuple, cascades_read_their_parts};
+use std::alloc::{AllocError, Global};
+
+/// The least reading of the cascade that starts at the tuple, at an input of the source: by weight, then by the length of its output, then by
+/// its bytes. None exactly where there is none. What the source writes and weighs does not count.
+///
+/// After Dijkstra: the first entry that waits is the least way to its node, unless this is settled. It ends, since each round settles one
+/// node more, and a node is a state of the source with a tuple. Its sums fit `u128`: each settled node adds less than 2^56 to a weight, and
+/// fewer than 2^64 are settled.
+pub fn least<X: Expander>(
+    alloc: Global,
+    source: &Fst,
+    x: &mut X,
+    start: &Tuple,
+) -> Result<Option<Least>, AllocError>
+    requires ready { X.is_ready x.old }
+    requires start { IsStart (X.cascades x.old) start.now }
+    requires bytes { WritesBytes (X.cascades x.old) start.now }
+    ensures least { IfOk result (λ answer. IsLeastFrom source.now (X.cascades x.old) start.now (option_map (λ l. (l.weight, l.output.items)) answer)) }
+    ensures ready { X.is_ready x.new }
+    ensures on { OnOk result (X.goes_on x.old x.new) }
+    ensures up { OnErr result (StopsAfter X.goes_on X.gives_up x.old x.new) }
+{
+    cascades_read_their_parts();
+    let mut search = Search::new(alloc);
+    let nothing = Entry {
+        weight: 0,
+        length: 0,
+        output: 0,
+        node: 0,
+    };
+    search.reach(Node::At(source.start(), *start), &nothing, 0, 0)?;
+    let mut buffer = Vec::new(alloc);
+    while let Some(entry) = search.next() {
+        match search.nodes.get(entry.node) {
+            Node::End => {
+                let labels = search.outputs.labels(alloc, entry.output)?;
+                return Ok(Some(Least {
+                    weight: entry.weight,
+                    output: bytes_of(alloc, &labels)?,
+                }));
+            }
+            Node::At(state, tuple) => {
+                expand(source, x, state, &tuple, &entry, &mut search, &mut buffer)?;
+            }
+        }
+    }
+    Ok(None)
+}
