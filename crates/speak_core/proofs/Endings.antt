@@ -191,11 +191,11 @@ not_long : (input : List ℕ) (now : Option (List ℕ)) → length input ≤ 2 ^
 not_long input None l more = more
 not_long input (Some after) l more = omega (arith, l, more)
 
-named : (words : List (String Global)) (files : Files) (e : Expression) → Accepted words files e → setup_name words ≡ None → ⊥
+named : (words : List (String Global)) (files : Files) (es : List Expression) → Accepted words files es → setup_name words ≡ None → ⊥
 named words files e a none = let no_name : Some a.name ≡ None = sym a.is_command ∙ none in cc
 
 pub complete_end : (words : List (String Global)) (known : Option Files) (left now : Option (List ℕ)) (Rises : Type 0) (r : Result Bool Stop) (n : ℕ) → IsEnd n r → Known words known left now Rises r
-    → IfSome known (λ files. IfSome left (λ input. (e : Expression) → Accepted words files e → length input ≤ 2 ^ 28 → (Rises → ⊥) → (n ≤ 1) ⊎ (n ≡ 5)))
+    → IfSome known (λ files. IfSome left (λ input. (es : List Expression) → Accepted words files es → length input ≤ 2 ^ 28 → (Rises → ⊥) → (n ≤ 1) ⊎ (n ≡ 5)))
 complete_end words None left now Rises r n end k = tt
 complete_end words (Some files) None now Rises r n end k = tt
 complete_end words (Some files) (Some input) now Rises (Ok true) n end k = λ e a l calm. inl (omega (arith, end))

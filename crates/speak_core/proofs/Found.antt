@@ -1,24 +1,24 @@
--- From the parts of a rule's files to what is asked for.
-use Rattle.std.proofs.Common.{◌≡◌, ◌≢◌, ◌≤◌, ℕ, List, [], ◌∷◌, None, Some, Ok, Err, Vec, Global, true, false, Result, Option, IfSome, IfOk, OnOk, length, get_or, slice_index_or, refl, sym, ap, ◌∙◌, subst, arith}
+-- From the files of the rules to what is asked for.
+use Rattle.std.proofs.Common.{◌≡◌, ◌≤◌, All, ℕ, List, [], ◌∷◌, None, Some, Ok, Err, Vec, Global, true, false, Result, Option, IfSome, IfOk, OnOk, length, get_or, slice_index_or, refl, sym, ap, ◌∙◌, subst, arith}
 use Rattle.std.specs.Prelude.{MatchResult}
 use Rattle.std.specs.declared.alloc.AllocError.{AllocError}
 use Rattle.norm_base.specs.Files.{Files, file_of}
-use Rattle.weighted_relations.specs.Expressions.{Expression, Rel, is_marked}
+use Rattle.weighted_relations.specs.Expressions.{Expression, Rel}
 use Rattle.weighted_relations.specs.Machines.{Machine, Reads}
-use Rattle.weighted_relations.specs.Relations.{Same}
-use Rattle.grammar_build.specs.Empties.{RewritesEmptyText}
+use Rattle.weighted_relations.specs.Relations.{Cascade, IsUnmarked, Same}
+use Rattle.state_tuples.specs.Cascades.{Cascaded}
 use Rattle.speak_setup.specs.Setups.{SetupNames, SetupText, names_of, outcome_of}
 use Rattle.speak_setup.specs.declared.setup.Need.TheVariants.{Classifier}
 use Rattle.speak_setup.specs.declared.setup.Setup.{Setup}
 use Rattle.speak_setup.specs.declared.setup.SetupFault.{SetupFault}
 use Rattle.speak_setup.specs.declared.setup.SetupFault.TheVariants.{BadLine, Repeated, Missing, Memory as SetupMemory}
 use Rattle.thrax_meaning.specs.declared.why.Why.{Why}
-use Rattle.thrax_link.specs.Exports.{expression_named}
 use Rattle.thrax_link.specs.Linking.{Linked, Outcome, refuses, exporting}
-use Rattle.speak_core.specs.Accepted.{Asked, spoken_by, refused, IsOnly, RuleAsks, no_rule, marked, rewrites_empty, accepted, GrammarAsks, unlinked, linked, NamesAsk, several, one, SetupAsks, absent, at_fault, read}
-use Rattle.speak_core.specs.Loaded.{Loaded, StopsAs, Finds, IsSetupFile, IsGrammarFile, FindsSetup, FindsGrammar}
+use Rattle.speak_core.specs.Accepted.{Asked, spoken_by, refused, IsOnly, named, FirstEmpty, none_left, here, later, RulesAsk, unnamed, rewrites_empty, accepted, GrammarAsks, unlinked, linked, NamesAsk, SetupAsks, absent, at_fault, read}
+use Rattle.speak_core.specs.Loaded.{AreBuilt, CanBeBuilt, Loaded, StopsAs, TellsFirstEmpty, TellsText, Finds, IsSetupFile, IsGrammarFile, FindsSetup, FindsGrammar}
 use Rattle.speak_core.specs.Stops.{IsDeviceStop}
-use Rattle.speak_core.specs.Texts.{absent_text, several_text, setup_text, no_rule_text, marked_text, empty_text, refusal_text}
+use Rattle.speak_core.proofs.Cascading.{cascade_same, named_count, read_count, unmarked_parts}
+use Rattle.speak_core.specs.Texts.{absent_text, setup_text, empty_text, refusal_text}
 use Rattle.speak_core.specs.declared.stop.Stop.{Stop}
 use Rattle.speak_core.specs.declared.stop.Stop.TheVariants as stop
 
@@ -37,8 +37,8 @@ stops_lift P Q stop.Outside alike h = tt
 stops_lift P Q stop.Memory alike h = tt
 stops_lift P Q stop.TooLong alike h = tt
 
-pub finds_lift : (P Q : Asked → Type 0) (r : Result Machine Stop) → Alike P Q → Finds P r → Finds Q r
-finds_lift P Q (Ok m) alike h = record { expression = h.expression; is_only = only_lift P Q (spoken_by h.expression) alike h.is_only; readings = h.readings }
+pub finds_lift : (P Q : Asked → Type 0) (r : Result Cascaded Stop) → Alike P Q → Finds P r → Finds Q r
+finds_lift P Q (Ok c) alike h = record { expressions = h.expressions; is_only = only_lift P Q (spoken_by h.expressions) alike h.is_only; readings = h.readings }
 finds_lift P Q (Err s) alike h = stops_lift P Q s alike h
 
 same_text : (files : Files) (name a b : List ℕ) → file_of files name ≡ Some a → file_of files name ≡ Some b → a ≡ b
@@ -52,48 +52,83 @@ pub refusal_stops : (P : Asked → Type 0) (text : List ℕ) (t : Result (Vec �
 refusal_stops P text (Ok v) s is items o = subst (StopsAs P) (sym is) (subst (λ l. IsOnly P (refused l)) (sym items) o)
 refusal_stops P text (Err e) s is items o = subst (StopsAs P) (sym is) tt
 
--- the rule of a file
+-- the rules of a file
 
-same_named : (exports : List (List ℕ × Expression)) (name : List ℕ) (e f : Expression) → expression_named exports name ≡ Some e → expression_named exports name ≡ Some f → e ≡ f
-same_named exports name e f is of = let both : Some e ≡ Some f = sym is ∙ of in cc
+-- the first that rewrites the empty text is one
+first_empty_once : (names : List (List ℕ)) (es : List Expression) (a b : Option (List ℕ)) → FirstEmpty names es a → FirstEmpty names es b → a ≡ b
+first_empty_once names es a b none_left none_left = refl
+first_empty_once names es a b (here r) (here s) = refl
+first_empty_once names es a b (here r) (later s more) = absurd (s r)
+first_empty_once names es a b (later r more) (here s) = absurd (r s)
+first_empty_once names es a b (later {names = ns} {es = fs} r more) (later s rest) = first_empty_once ns fs a b more rest
 
-two_marks : (e f : Expression) → e ≡ f → is_marked e ≡ true → is_marked f ≡ false → ⊥
-two_marks e f same k l = (let both : true ≡ false = sym k ∙ ap is_marked same ∙ l in cc)
+rules_once : (file : List ℕ) (names : List (List ℕ)) (exports : List (List ℕ × Expression)) (a b : Asked) → RulesAsk file names exports a → RulesAsk file names exports b → a ≡ b
+rules_once file names exports a b (unnamed text is) (unnamed other of) = (let both : Err text ≡ Err other = sym is ∙ of in let same : text ≡ other = cc in ap refused same)
+rules_once file names exports a b (unnamed text is) (rewrites_empty es name of r) = absurd (let both : Err text ≡ Ok es = sym is ∙ of in cc)
+rules_once file names exports a b (unnamed text is) (accepted es of r) = absurd (let both : Err text ≡ Ok es = sym is ∙ of in cc)
+rules_once file names exports a b (rewrites_empty es name is r) (unnamed text of) = absurd (let both : Err text ≡ Ok es = sym of ∙ is in cc)
+rules_once file names exports a b (rewrites_empty es name is r) (rewrites_empty fs other of s) =
+    let both : Ok es ≡ Ok fs = sym is ∙ of in
+    let same : es ≡ fs = cc in
+    let found : Some name ≡ Some other = first_empty_once names fs (Some name) (Some other) (subst (λ l. FirstEmpty names l (Some name)) same r) s in
+    let one : name ≡ other = cc in
+    ap (λ n. refused (empty_text n)) one
+rules_once file names exports a b (rewrites_empty es name is r) (accepted fs of s) =
+    let both : Ok es ≡ Ok fs = sym is ∙ of in
+    let same : es ≡ fs = cc in
+    let found : Some name ≡ None = first_empty_once names fs (Some name) None (subst (λ l. FirstEmpty names l (Some name)) same r) s in
+    absurd (cc)
+rules_once file names exports a b (accepted es is r) (unnamed text of) = absurd (let both : Err text ≡ Ok es = sym of ∙ is in cc)
+rules_once file names exports a b (accepted es is r) (rewrites_empty fs name of s) =
+    let both : Ok es ≡ Ok fs = sym is ∙ of in
+    let same : es ≡ fs = cc in
+    let found : None ≡ Some name = first_empty_once names fs None (Some name) (subst (λ l. FirstEmpty names l None) same r) s in
+    absurd (cc)
+rules_once file names exports a b (accepted es is r) (accepted fs of s) = (let both : Ok es ≡ Ok fs = sym is ∙ of in let same : es ≡ fs = cc in ap spoken_by same)
 
-rule_once : (file name : List ℕ) (exports : List (List ℕ × Expression)) (a b : Asked) → RuleAsks file name exports a → RuleAsks file name exports b → a ≡ b
-rule_once file name exports a b (no_rule n) (no_rule m) = refl
-rule_once file name exports a b (no_rule n) (marked e is k) = absurd (let both : None ≡ Some e = sym n ∙ is in cc)
-rule_once file name exports a b (no_rule n) (rewrites_empty e is k r) = absurd (let both : None ≡ Some e = sym n ∙ is in cc)
-rule_once file name exports a b (no_rule n) (accepted e is k r) = absurd (let both : None ≡ Some e = sym n ∙ is in cc)
-rule_once file name exports a b (marked e is k) (no_rule n) = absurd (let both : None ≡ Some e = sym n ∙ is in cc)
-rule_once file name exports a b (marked e is k) (marked f of l) = refl
-rule_once file name exports a b (marked e is k) (rewrites_empty f of l r) = absurd (two_marks e f (same_named exports name e f is of) k l)
-rule_once file name exports a b (marked e is k) (accepted f of l r) = absurd (two_marks e f (same_named exports name e f is of) k l)
-rule_once file name exports a b (rewrites_empty e is k r) (no_rule n) = absurd (let both : None ≡ Some e = sym n ∙ is in cc)
-rule_once file name exports a b (rewrites_empty e is k r) (marked f of l) = absurd (two_marks f e (same_named exports name f e of is) l k)
-rule_once file name exports a b (rewrites_empty e is k r) (rewrites_empty f of l s) = refl
-rule_once file name exports a b (rewrites_empty e is k r) (accepted f of l s) = absurd (s (subst RewritesEmptyText (same_named exports name e f is of) r))
-rule_once file name exports a b (accepted e is k r) (no_rule n) = absurd (let both : None ≡ Some e = sym n ∙ is in cc)
-rule_once file name exports a b (accepted e is k r) (marked f of l) = absurd (two_marks f e (same_named exports name f e of is) l k)
-rule_once file name exports a b (accepted e is k r) (rewrites_empty f of l s) = absurd (r (subst RewritesEmptyText (same_named exports name f e of is) s))
-rule_once file name exports a b (accepted e is k r) (accepted f of l s) = ap spoken_by (same_named exports name e f is of)
+pub rules_only : (file : List ℕ) (names : List (List ℕ)) (exports : List (List ℕ × Expression)) (a : Asked) → RulesAsk file names exports a → IsOnly (RulesAsk file names exports) a
+rules_only file names exports a r = record { found = r; only = λ other q. rules_once file names exports other a q r }
 
-pub rule_only : (file name : List ℕ) (exports : List (List ℕ × Expression)) (a : Asked) → RuleAsks file name exports a → IsOnly (RuleAsks file name exports) a
-rule_only file name exports a r = record { found = r; only = λ other q. rule_once file name exports other a q r }
+-- the refusal of a rule that isn't found
+pub unnamed_stops : (file : List ℕ) (names : List (List ℕ)) (exports : List (List ℕ × Expression)) (s : Stop) → TellsText (named file exports names) s → StopsAs (RulesAsk file names exports) s
+unnamed_stops file names exports stop.Words h = tt
+unnamed_stops file names exports (stop.Refused text) h = rules_only file names exports (refused text.items) (unnamed text.items h)
+unnamed_stops file names exports stop.Outside h = tt
+unnamed_stops file names exports stop.Memory h = tt
+unnamed_stops file names exports stop.TooLong h = tt
 
-pub rule_loaded : (file name : List ℕ) (exports : List (List ℕ × Expression)) (e : Expression) (m : Machine) → expression_named exports name ≡ Some e → is_marked e ≡ false → (RewritesEmptyText e → ⊥) → Same (Reads m) (Rel e) → Loaded (RuleAsks file name exports) m
-rule_loaded file name exports e m is unmarked whole readings = record { expression = e; is_only = rule_only file name exports (spoken_by e) (accepted e is unmarked whole); readings = readings }
+module _ (file : List ℕ) (names : List (List ℕ)) (exports : List (List ℕ × Expression)) (es : List Expression) (are : named file exports names ≡ Ok es) where
+  -- the refusal of a rule that isn't built
+  pub unbuilt_stops : (s : Stop) → TellsFirstEmpty names es s → StopsAs (RulesAsk file names exports) s
+  unbuilt_stops stop.Words h = tt
+  unbuilt_stops (stop.Refused text) h = subst (λ t. IsOnly (RulesAsk file names exports) (refused t)) (sym h.1) (rules_only file names exports (refused (empty_text h.0)) (rewrites_empty es h.0 are h.2))
+  unbuilt_stops stop.Outside h = tt
+  unbuilt_stops stop.Memory h = tt
+  unbuilt_stops stop.TooLong h = tt
+
+  pub built_loaded : (ms : List Machine) (c : Cascaded) → AreBuilt ms names es → c.parts ≡ ms → Loaded (RulesAsk file names exports) c
+  built_loaded ms c built is = record {
+    expressions = es;
+    is_only = rules_only file names exports (spoken_by es) (accepted es are built.complete);
+    readings = subst (λ l. Same (Cascade Reads l) (Cascade Rel es)) (sym is) (cascade_same ms es built.readings);
+  }
+
+  pub built_unmarked : (ms : List Machine) (c : Cascaded) → AreBuilt ms names es → All CanBeBuilt es → c.parts ≡ ms → IsUnmarked (Cascade Reads c.parts)
+  built_unmarked ms c built can is = subst (λ l. IsUnmarked (Cascade Reads l)) (sym is) (unmarked_parts ms es built.readings can)
+
+  pub built_count : (ms : List Machine) → AreBuilt ms names es → length ms ≡ length names
+  built_count ms built = read_count ms es built.readings ∙ sym (named_count file exports names es are)
 
 -- the grammar file
 
-pub exports_alike : (files : Files) (file name : List ℕ) (exports : List (List ℕ × Expression)) → IsGrammarFile files file exports → Alike (RuleAsks file name exports) (GrammarAsks files file name)
-exports_alike files file name exports g = record { to = λ a r. linked exports a g.linked r; back = back } where
-  back : (a : Asked) → GrammarAsks files file name a → RuleAsks file name exports a
+pub exports_alike : (files : Files) (file : List ℕ) (names : List (List ℕ)) (exports : List (List ℕ × Expression)) → IsGrammarFile files file exports → Alike (RulesAsk file names exports) (GrammarAsks files file names)
+exports_alike files file names exports g = record { to = λ a r. linked exports a g.linked r; back = back } where
+  back : (a : Asked) → GrammarAsks files file names a → RulesAsk file names exports a
   back a (unlinked at statement why l) = absurd (let both : refuses at statement why ≡ exporting exports = g.only (refuses at statement why) l in cc)
   back a (linked other b l r) =
       let both : exporting other ≡ exporting exports = g.only (exporting other) l in
       let same : other ≡ exports = cc in
-      subst (λ x. RuleAsks file name x b) same r
+      subst (λ x. RulesAsk file names x b) same r
 
 same_refusal : (at at' : List ℕ) (n n' : ℕ) (why why' : Why) → refuses at n why ≡ refuses at' n' why' → refused (refusal_text at n why) ≡ refused (refusal_text at' n' why')
 same_refusal at at' n n' why why' e =
@@ -102,40 +137,11 @@ same_refusal at at' n n' why why' e =
     let c : why ≡ why' = cc in
     ap (λ x. refused (refusal_text x n why)) a ∙ ap (λ x. refused (refusal_text at' x why)) b ∙ ap (λ x. refused (refusal_text at' n' x)) c
 
-pub unlinked_only : (files : Files) (file name at : List ℕ) (statement : ℕ) (why : Why) → Linked files file (refuses at statement why) → ((other : Outcome) → Linked files file other → other ≡ refuses at statement why) → IsOnly (GrammarAsks files file name) (refused (refusal_text at statement why))
-unlinked_only files file name at statement why l only = record { found = unlinked at statement why l; only = once } where
-  once : (other : Asked) → GrammarAsks files file name other → other ≡ refused (refusal_text at statement why)
+pub unlinked_only : (files : Files) (file at : List ℕ) (names : List (List ℕ)) (statement : ℕ) (why : Why) → Linked files file (refuses at statement why) → ((other : Outcome) → Linked files file other → other ≡ refuses at statement why) → IsOnly (GrammarAsks files file names) (refused (refusal_text at statement why))
+unlinked_only files file at names statement why l only = record { found = unlinked at statement why l; only = once } where
+  once : (other : Asked) → GrammarAsks files file names other → other ≡ refused (refusal_text at statement why)
   once other (unlinked at' statement' why' m) = same_refusal at' at statement' statement why' why (only (refuses at' statement' why') m)
   once other (linked exports a m r) = absurd (let both : exporting exports ≡ refuses at statement why = only (exporting exports) m in cc)
-
--- the names of a setup
-
-pub one_alike : (files : Files) (names : SetupNames) (name : List ℕ) → names.tokenizer_rules ≡ name ∷ [] → Alike (GrammarAsks files names.tokenizer name) (NamesAsk files names)
-one_alike files names name is = record { to = λ a g. one name a is g; back = back } where
-  back : (a : Asked) → NamesAsk files names a → GrammarAsks files names.tokenizer name a
-  back a (several first second more two) = absurd (let both : name ∷ [] ≡ first ∷ second ∷ more = sym is ∙ two in cc)
-  back a (one other b is' g) =
-      let both : other ∷ [] ≡ name ∷ [] = sym is' ∙ is in
-      let same : other ≡ name = cc in
-      subst (λ n. GrammarAsks files names.tokenizer n b) same g
-
-pub several_only : (files : Files) (names : SetupNames) (l : List (List ℕ)) → l ≡ names.tokenizer_rules → 1 ≤ length l → length l ≢ 1 → IsOnly (NamesAsk files names) (refused several_text)
-several_only files names [] is some other = absurd (omega arith)
-several_only files names (first ∷ []) is some other = absurd (other refl)
-several_only files names (first ∷ second ∷ more) is some other = record { found = several first second more (sym is); only = once } where
-  once : (a : Asked) → NamesAsk files names a → a ≡ refused several_text
-  once a (several f s m two) = refl
-  once a (one name b is' g) = absurd (let both : name ∷ [] ≡ first ∷ second ∷ more = sym is' ∙ sym is in cc)
-
-pub single : (l : List (List ℕ)) (x : List ℕ) → length l ≡ 1 → x ≡ get_or l 0 x → l ≡ x ∷ []
-single [] x n is = absurd (omega (arith, n))
-single (y ∷ []) x n is = ap (λ z. z ∷ []) (sym is)
-single (y ∷ z ∷ l) x n is = absurd (omega (arith, n))
-
-pub single_of : (l : List (List ℕ)) → length l ≡ 1 → (x : List ℕ) × (l ≡ x ∷ [])
-single_of [] n = absurd (omega (arith, n))
-single_of (y ∷ []) n = (y, refl)
-single_of (y ∷ z ∷ l) n = absurd (omega (arith, n))
 
 -- the setup
 
@@ -191,29 +197,23 @@ pub setup_finds : (known : Option Files) (name text : List ℕ) (names : SetupNa
 setup_finds None name text names reads only there = tt
 setup_finds (Some files) name text names reads only there = record { text = text; there = sym there; reads = reads; only = only }
 
-pub rule_finds : (known now : Option Files) (name : List ℕ) (names : SetupNames) (r : Result Machine Stop) → now ≡ known → IfSome known (λ files. IsSetupFile files name names) → IfSome now (λ files. Finds (NamesAsk files names) r) → IfSome known (λ files. Finds (SetupAsks files name) r)
+pub rule_finds : (known now : Option Files) (name : List ℕ) (names : SetupNames) (r : Result Cascaded Stop) → now ≡ known → IfSome known (λ files. IsSetupFile files name names) → IfSome now (λ files. Finds (NamesAsk files names) r) → IfSome known (λ files. Finds (SetupAsks files name) r)
 rule_finds None now name names r same s f = tt
 rule_finds (Some files) now name names r same s f = finds_lift (NamesAsk files names) (SetupAsks files name) r (names_alike files name names s) (subst (λ k. IfSome k (λ files. Finds (NamesAsk files names) r)) same f)
 
-pub several_finds : (known : Option Files) (names : SetupNames) (t : Result (Vec ℕ Global) AllocError) (s : Stop) → MatchResult t (λ found. s ≡ stop.Refused found) (λ none. s ≡ stop.Memory) → IfOk t (λ v. v.items ≡ several_text)
-    → 1 ≤ length names.tokenizer_rules → length names.tokenizer_rules ≢ 1 → IfSome known (λ files. StopsAs (NamesAsk files names) s)
-several_finds None names t s is items some other = tt
-several_finds (Some files) names t s is items some other = refusal_stops (NamesAsk files names) several_text t s is items (several_only files names names.tokenizer_rules refl some other)
+pub named_finds : (known : Option Files) (file : List ℕ) (names : List (List ℕ)) (exports : List (List ℕ × Expression)) (r : Result Cascaded Stop) → IfSome known (λ files. IsGrammarFile files file exports) → Finds (RulesAsk file names exports) r → IfSome known (λ files. Finds (GrammarAsks files file names) r)
+named_finds None file names exports r g f = tt
+named_finds (Some files) file names exports r g f = finds_lift (RulesAsk file names exports) (GrammarAsks files file names) r (exports_alike files file names exports g) f
 
-pub named_finds : (known now : Option Files) (names : SetupNames) (name : List ℕ) (exports : List (List ℕ × Expression)) (r : Result Machine Stop) → names.tokenizer_rules ≡ name ∷ [] → IfSome known (λ files. IsGrammarFile files names.tokenizer exports) → Finds (RuleAsks names.tokenizer name exports) r → IfSome known (λ files. Finds (NamesAsk files names) r)
-named_finds None now names name exports r is g f = tt
-named_finds (Some files) now names name exports r is g f =
-    finds_lift (GrammarAsks files names.tokenizer name) (NamesAsk files names) r (one_alike files names name is) (finds_lift (RuleAsks names.tokenizer name exports) (GrammarAsks files names.tokenizer name) r (exports_alike files names.tokenizer name exports g) f)
-
-pub named_stops : (known : Option Files) (names : SetupNames) (name : List ℕ) (s : Stop) → names.tokenizer_rules ≡ name ∷ [] → IfSome known (λ files. (rule : List ℕ) → StopsAs (GrammarAsks files names.tokenizer rule) s) → IfSome known (λ files. StopsAs (NamesAsk files names) s)
-named_stops None names name s is h = tt
-named_stops (Some files) names name s is h = stops_lift (GrammarAsks files names.tokenizer name) (NamesAsk files names) s (one_alike files names name is) (h name)
+pub named_stops : (known : Option Files) (file : List ℕ) (names : List (List ℕ)) (s : Stop) → IfSome known (λ files. (rules : List (List ℕ)) → StopsAs (GrammarAsks files file rules) s) → IfSome known (λ files. StopsAs (GrammarAsks files file names) s)
+named_stops None file names s h = tt
+named_stops (Some files) file names s h = h names
 
 pub refusal_finds : (known : Option Files) (file at : List ℕ) (statement : ℕ) (why : Why) (t : Result (Vec ℕ Global) AllocError) (s : Stop) → MatchResult t (λ found. s ≡ stop.Refused found) (λ none. s ≡ stop.Memory) → IfOk t (λ v. v.items ≡ refusal_text at statement why)
     → ((files : Files) → known ≡ Some files → Linked files file (refuses at statement why)) → ((files : Files) → known ≡ Some files → (other : Outcome) → Linked files file other → other ≡ refuses at statement why)
-    → IfSome known (λ files. (rule : List ℕ) → StopsAs (GrammarAsks files file rule) s)
+    → IfSome known (λ files. (rules : List (List ℕ)) → StopsAs (GrammarAsks files file rules) s)
 refusal_finds None file at statement why t s is items l only = tt
-refusal_finds (Some files) file at statement why t s is items l only = λ rule. refusal_stops (GrammarAsks files file rule) (refusal_text at statement why) t s is items (unlinked_only files file rule at statement why (l files refl) (only files refl))
+refusal_finds (Some files) file at statement why t s is items l only = λ rules. refusal_stops (GrammarAsks files file rules) (refusal_text at statement why) t s is items (unlinked_only files file at rules statement why (l files refl) (only files refl))
 
 pub grammar_finds : (known : Option Files) (file : List ℕ) (exports : List (List ℕ × Expression)) → ((files : Files) → known ≡ Some files → Linked files file (exporting exports)) → ((files : Files) → known ≡ Some files → (other : Outcome) → Linked files file other → other ≡ exporting exports)
     → IfSome known (λ files. IsGrammarFile files file exports)

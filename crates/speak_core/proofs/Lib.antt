@@ -1,5 +1,8 @@
 pub mod Spoken
+pub mod LineAnswers
 pub mod SoFar
+pub mod Cascading
+pub mod Reordered
 pub mod Found
 pub mod Runs
 pub mod Endings

@@ -1,4 +1,4 @@
--- From the rule that was found to what a run owes.
+-- From the cascade that was found to what a run owes.
 use Rattle.std.proofs.Common.{◌≡◌, ℕ, List, None, Some, Ok, Err, Bool, Result, IfSome, IfErr, sym, ◌∙◌, subst, String, Global}
 use Rattle.std.specs.declared.option.Option.{Option}
 use Rattle.std.specs.Result.{IsErrAnd}
@@ -6,15 +6,16 @@ use Rattle.norm_base.specs.Bytes.{AppendsPrefix}
 use Rattle.norm_base.specs.Files.{Files}
 use Rattle.norm_base.proofs.Front.{prefix_none}
 use Rattle.weighted_relations.specs.Expressions.{Expression, Rel}
-use Rattle.weighted_relations.specs.Machines.{Machine, Reads}
+use Rattle.weighted_relations.specs.Relations.{Cascade}
 use Rattle.weighted_relations.specs.RelationLaws.{same_sym}
 use Rattle.speak_core.specs.Accepted.{Accepted, Asked, Asks, SetupAsks, spoken_by, refused}
-use Rattle.speak_core.specs.Answers.{AllSpoken, written, told}
+use Rattle.speak_core.specs.Answers.{Answer, AllSpoken, written, told}
 use Rattle.speak_core.specs.Commands.{setup_name}
 use Rattle.text_lines.specs.Lines.{lines}
 use Rattle.speak_core.specs.Loaded.{Loaded, StopsAs}
 use Rattle.speak_core.specs.Owed.{Owed, nothing, lines_of, SpeaksAll}
-use Rattle.speak_core.specs.Parts.{Speaks}
+use Rattle.speak_core.specs.Parts.{ReadsOf, Speaks}
+use Rattle.state_tuples.specs.Cascades.{Cascaded}
 use Rattle.speak_core.specs.Stops.{IsDeviceStop, IsReadingStop, IsRefusalStop}
 use Rattle.speak_core.specs.declared.stop.Stop.{Stop}
 use Rattle.speak_core.specs.declared.stop.Stop.TheVariants as stop
@@ -29,15 +30,15 @@ asks_same words files name command = record { to = λ a s. record { name = name;
       let same : s.name ≡ n = cc in
       subst (λ m. SetupAsks f m a) same s.setup
 
-pub rule_accepted : (words : List (String Global)) (files : Files) (name : List ℕ) (m : Machine) → Some name ≡ setup_name words → (l : Loaded (SetupAsks files name) m) → Accepted words files l.expression
-rule_accepted words files name m command l = record { name = name; is_command = sym command; setup = l.is_only.found }
+pub rules_accepted : (words : List (String Global)) (files : Files) (name : List ℕ) (m : Cascaded) → Some name ≡ setup_name words → (l : Loaded (SetupAsks files name) m) → Accepted words files l.expressions
+rules_accepted words files name m command l = record { name = name; is_command = sym command; setup = l.is_only.found }
 
-pub rule_only : (words : List (String Global)) (files : Files) (name : List ℕ) (m : Machine) (e : Expression) → Some name ≡ setup_name words → (l : Loaded (SetupAsks files name) m) → Accepted words files e → e ≡ l.expression
-rule_only words files name m e command l a =
-    let both : spoken_by e ≡ spoken_by l.expression = l.is_only.only (spoken_by e) ((asks_same words files name command).back (spoken_by e) a) in
+pub rules_only : (words : List (String Global)) (files : Files) (name : List ℕ) (m : Cascaded) (es : List Expression) → Some name ≡ setup_name words → (l : Loaded (SetupAsks files name) m) → Accepted words files es → es ≡ l.expressions
+rules_only words files name m es command l a =
+    let both : spoken_by es ≡ spoken_by l.expressions = l.is_only.only (spoken_by es) ((asks_same words files name command).back (spoken_by es) a) in
     cc
 
--- the refusal of a rule is the refusal of a run
+-- the refusal of the rules is the refusal of a run
 pub run_stops : (words : List (String Global)) (known : Option Files) (name : List ℕ) (s : Stop) → Some name ≡ setup_name words → IfSome known (λ files. StopsAs (SetupAsks files name) s) → IfSome known (λ files. StopsAs (Asks words files) s)
 run_stops words None name s command h = tt
 run_stops words (Some files) name s command h = stops_lift (SetupAsks files name) (Asks words files) s (asks_same words files name command) h
@@ -82,51 +83,51 @@ owes_no_faults words None left old = tt
 owes_no_faults words (Some files) None old = tt
 owes_no_faults words (Some files) (Some input) old = λ output faults owed. prefix_none old faults
 
--- what the lines of the input say, by the relation of the rule, is what they say by its transducer
-by_machine : (files : Files) (name input bytes : List ℕ) (m : Machine) (e : Expression) (answers : List (Option (List ℕ))) (l : Loaded (SetupAsks files name) m) → e ≡ l.expression → bytes ≡ input → AllSpoken (Rel e) (lines input) answers → AllSpoken (Reads m) (lines bytes) answers
-by_machine files name input bytes m e answers l same is spoken =
-    let there = all_spoken_to (Rel l.expression) (Reads m) (same_sym (Reads m) (Rel l.expression) l.readings) (lines input) answers (subst (λ f. AllSpoken (Rel f) (lines input) answers) same spoken) in
-    subst (λ b. AllSpoken (Reads m) (lines b) answers) (sym is) there
+-- what the lines of the input say, by the relation of the cascade, is what they say by its transducers
+by_parts : (files : Files) (name input bytes : List ℕ) (m : Cascaded) (es : List Expression) (answers : List Answer) (l : Loaded (SetupAsks files name) m) → es ≡ l.expressions → bytes ≡ input → AllSpoken (Cascade Rel es) (lines input) answers → AllSpoken (ReadsOf m) (lines bytes) answers
+by_parts files name input bytes m es answers l same is spoken =
+    let there = all_spoken_to (Cascade Rel l.expressions) (ReadsOf m) (same_sym (ReadsOf m) (Cascade Rel l.expressions) l.readings) (lines input) answers (subst (λ f. AllSpoken (Cascade Rel f) (lines input) answers) same spoken) in
+    subst (λ b. AllSpoken (ReadsOf m) (lines b) answers) (sym is) there
 
-owed_words : (words : List (String Global)) (files : Files) (name input bytes : List ℕ) (m : Machine) (old new : Option (List ℕ)) (output faults : List ℕ) → Some name ≡ setup_name words → Loaded (SetupAsks files name) m → bytes ≡ input
-    → ((answers : List (Option (List ℕ))) → AllSpoken (Reads m) (lines bytes) answers → AppendsPrefix old new (written answers))
+owed_words : (words : List (String Global)) (files : Files) (name input bytes : List ℕ) (m : Cascaded) (old new : Option (List ℕ)) (output faults : List ℕ) → Some name ≡ setup_name words → Loaded (SetupAsks files name) m → bytes ≡ input
+    → ((answers : List Answer) → AllSpoken (ReadsOf m) (lines bytes) answers → AppendsPrefix old new (written answers))
     → Owed words files input output faults → AppendsPrefix old new output
-owed_words words files name input bytes m old new output faults command l is front (nothing none) = absurd (none l.expression (rule_accepted words files name m command l))
-owed_words words files name input bytes m old new output faults command l is front (lines_of e answers a spoken) =
-    front answers (by_machine files name input bytes m e answers l (rule_only words files name m e command l a) is spoken)
+owed_words words files name input bytes m old new output faults command l is front (nothing none) = absurd (none l.expressions (rules_accepted words files name m command l))
+owed_words words files name input bytes m old new output faults command l is front (lines_of es answers a spoken) =
+    front answers (by_parts files name input bytes m es answers l (rules_only words files name m es command l a) is spoken)
 
-owed_faults : (words : List (String Global)) (files : Files) (name input bytes : List ℕ) (m : Machine) (old new : Option (List ℕ)) (output faults : List ℕ) → Some name ≡ setup_name words → Loaded (SetupAsks files name) m → bytes ≡ input
-    → ((answers : List (Option (List ℕ))) → AllSpoken (Reads m) (lines bytes) answers → AppendsPrefix old new (told 1 answers))
+owed_faults : (words : List (String Global)) (files : Files) (name input bytes : List ℕ) (m : Cascaded) (old new : Option (List ℕ)) (output faults : List ℕ) → Some name ≡ setup_name words → Loaded (SetupAsks files name) m → bytes ≡ input
+    → ((answers : List Answer) → AllSpoken (ReadsOf m) (lines bytes) answers → AppendsPrefix old new (told 1 answers))
     → Owed words files input output faults → AppendsPrefix old new faults
-owed_faults words files name input bytes m old new output faults command l is front (nothing none) = absurd (none l.expression (rule_accepted words files name m command l))
-owed_faults words files name input bytes m old new output faults command l is front (lines_of e answers a spoken) =
-    front answers (by_machine files name input bytes m e answers l (rule_only words files name m e command l a) is spoken)
+owed_faults words files name input bytes m old new output faults command l is front (nothing none) = absurd (none l.expressions (rules_accepted words files name m command l))
+owed_faults words files name input bytes m old new output faults command l is front (lines_of es answers a spoken) =
+    front answers (by_parts files name input bytes m es answers l (rules_only words files name m es command l a) is spoken)
 
-pub run_words : (words : List (String Global)) (known : Option Files) (left : Option (List ℕ)) (name bytes : List ℕ) (m : Machine) (old new : Option (List ℕ)) → Some name ≡ setup_name words → IfSome known (λ files. Loaded (SetupAsks files name) m) → IfSome left (λ input. bytes ≡ input)
-    → ((answers : List (Option (List ℕ))) → AllSpoken (Reads m) (lines bytes) answers → AppendsPrefix old new (written answers))
+pub run_words : (words : List (String Global)) (known : Option Files) (left : Option (List ℕ)) (name bytes : List ℕ) (m : Cascaded) (old new : Option (List ℕ)) → Some name ≡ setup_name words → IfSome known (λ files. Loaded (SetupAsks files name) m) → IfSome left (λ input. bytes ≡ input)
+    → ((answers : List Answer) → AllSpoken (ReadsOf m) (lines bytes) answers → AppendsPrefix old new (written answers))
     → IfSome known (λ files. IfSome left (λ input. (output faults : List ℕ) → Owed words files input output faults → AppendsPrefix old new output))
 run_words words None left name bytes m old new command l is front = tt
 run_words words (Some files) None name bytes m old new command l is front = tt
 run_words words (Some files) (Some input) name bytes m old new command l is front = λ output faults. owed_words words files name input bytes m old new output faults command l is front
 
-pub run_faults : (words : List (String Global)) (known : Option Files) (left : Option (List ℕ)) (name bytes : List ℕ) (m : Machine) (old new : Option (List ℕ)) → Some name ≡ setup_name words → IfSome known (λ files. Loaded (SetupAsks files name) m) → IfSome left (λ input. bytes ≡ input)
-    → ((answers : List (Option (List ℕ))) → AllSpoken (Reads m) (lines bytes) answers → AppendsPrefix old new (told 1 answers))
+pub run_faults : (words : List (String Global)) (known : Option Files) (left : Option (List ℕ)) (name bytes : List ℕ) (m : Cascaded) (old new : Option (List ℕ)) → Some name ≡ setup_name words → IfSome known (λ files. Loaded (SetupAsks files name) m) → IfSome left (λ input. bytes ≡ input)
+    → ((answers : List Answer) → AllSpoken (ReadsOf m) (lines bytes) answers → AppendsPrefix old new (told 1 answers))
     → IfSome known (λ files. IfSome left (λ input. (output faults : List ℕ) → Owed words files input output faults → AppendsPrefix old new faults))
 run_faults words None left name bytes m old new command l is front = tt
 run_faults words (Some files) None name bytes m old new command l is front = tt
 run_faults words (Some files) (Some input) name bytes m old new command l is front = λ output faults. owed_faults words files name input bytes m old new output faults command l is front
 
-pub run_speaks : (words : List (String Global)) (known : Option Files) (left : Option (List ℕ)) (name bytes : List ℕ) (m : Machine) (out out' err err' : Option (List ℕ)) (is_read : Bool) → Some name ≡ setup_name words → IfSome known (λ files. Loaded (SetupAsks files name) m) → IfSome left (λ input. bytes ≡ input)
-    → Speaks (Reads m) (lines bytes) out out' err err' is_read
+pub run_speaks : (words : List (String Global)) (known : Option Files) (left : Option (List ℕ)) (name bytes : List ℕ) (m : Cascaded) (out out' err err' : Option (List ℕ)) (is_read : Bool) → Some name ≡ setup_name words → IfSome known (λ files. Loaded (SetupAsks files name) m) → IfSome left (λ input. bytes ≡ input)
+    → Speaks (ReadsOf m) (lines bytes) out out' err err' is_read
     → IfSome known (λ files. IfSome left (λ input. SpeaksAll words files input out out' err err' is_read))
 run_speaks words None left name bytes m out out' err err' is_read command l is s = tt
 run_speaks words (Some files) None name bytes m out out' err err' is_read command l is s = tt
 run_speaks words (Some files) (Some input) name bytes m out out' err err' is_read command l is s = record {
-  expression = l.expression;
-  accepted = rule_accepted words files name m command l;
+  expressions = l.expressions;
+  accepted = rules_accepted words files name m command l;
   speaks = record {
     answers = s.answers;
-    spoken = subst (λ b. AllSpoken (Rel l.expression) (lines b) s.answers) is (all_spoken_to (Reads m) (Rel l.expression) l.readings (lines bytes) s.answers s.spoken);
+    spoken = subst (λ b. AllSpoken (Cascade Rel l.expressions) (lines b) s.answers) is (all_spoken_to (ReadsOf m) (Cascade Rel l.expressions) l.readings (lines bytes) s.answers s.spoken);
     words = s.words;
     faults = s.faults;
     read = s.read;
@@ -134,8 +135,8 @@ run_speaks words (Some files) (Some input) name bytes m out out' err err' is_rea
 }
 
 -- words and files that are accepted aren't refused
-pub run_accepts : (words : List (String Global)) (known : Option Files) (name : List ℕ) (m : Machine) → Some name ≡ setup_name words → IfSome known (λ files. Loaded (SetupAsks files name) m) → IfSome known (λ files. (text : List ℕ) → Asks words files (refused text) → ⊥)
+pub run_accepts : (words : List (String Global)) (known : Option Files) (name : List ℕ) (m : Cascaded) → Some name ≡ setup_name words → IfSome known (λ files. Loaded (SetupAsks files name) m) → IfSome known (λ files. (text : List ℕ) → Asks words files (refused text) → ⊥)
 run_accepts words None name m command l = tt
 run_accepts words (Some files) name m command l = λ text a.
-    let both : refused text ≡ spoken_by l.expression = l.is_only.only (refused text) ((asks_same words files name command).back (refused text) a) in
+    let both : refused text ≡ spoken_by l.expressions = l.is_only.only (refused text) ((asks_same words files name command).back (refused text) a) in
     cc

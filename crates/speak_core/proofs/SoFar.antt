@@ -6,7 +6,7 @@ use Rattle.std.specs.declared.option.Option.{Option}
 use Rattle.norm_base.specs.Bytes.{AppendsPrefix}
 use Rattle.norm_base.proofs.Front.{prefix_then, prefix_first, prefix_all}
 use Rattle.weighted_relations.specs.Relations.{Relation}
-use Rattle.speak_core.specs.Answers.{AllSpoken, written, told}
+use Rattle.speak_core.specs.Answers.{Answer, AllSpoken, written, told}
 use Rattle.text_lines.specs.Lines.{lines}
 use Rattle.speak_core.specs.Parts.{SpokenPart, Speaks}
 use Rattle.speak_core.proofs.Spoken.{part_none, part_more, part_begins}
@@ -38,7 +38,7 @@ so_far_more R text rest after n m r q words faults out mid out' err emid err' o 
 }
 
 -- where a batch is cut off, a prefix of all is written
-pub cut_words : (R : Relation) (text rest after : List ℕ) (n m : ℕ) (r q : Bool) (words faults : List ℕ) (out mid out' err emid : Option (List ℕ)) (o o' e e' : ℕ) (all : List (Option (List ℕ)))
+pub cut_words : (R : Relation) (text rest after : List ℕ) (n m : ℕ) (r q : Bool) (words faults : List ℕ) (out mid out' err emid : Option (List ℕ)) (o o' e e' : ℕ) (all : List Answer)
     → SoFar R text rest n r out mid err emid o o' e e' → SpokenPart R rest after n m q words faults → AppendsPrefix mid out' words
     → AllSpoken R (lines text) all → AppendsPrefix out out' (written all)
 cut_words R text rest after n m r q words faults out mid out' err emid o o' e e' all sofar part wrote spoken =
@@ -46,7 +46,7 @@ cut_words R text rest after n m r q words faults out mid out' err emid o o' e e'
     let begins = part_begins R text after 0 m (r && q) (sofar.words ++ words) (sofar.faults ++ faults) all whole spoken in
     subst (λ t. AppendsPrefix out out' t) (sym begins.all_words) (prefix_first out out' (sofar.words ++ words) (written begins.more) (prefix_then out mid out' sofar.words words sofar.out_part wrote))
 
-pub cut_faults : (R : Relation) (text rest after : List ℕ) (n m : ℕ) (r q : Bool) (words faults : List ℕ) (out mid err emid err' : Option (List ℕ)) (o o' e e' : ℕ) (all : List (Option (List ℕ)))
+pub cut_faults : (R : Relation) (text rest after : List ℕ) (n m : ℕ) (r q : Bool) (words faults : List ℕ) (out mid err emid err' : Option (List ℕ)) (o o' e e' : ℕ) (all : List Answer)
     → SoFar R text rest n r out mid err emid o o' e e' → SpokenPart R rest after n m q words faults → AppendsPrefix emid err' faults
     → AllSpoken R (lines text) all → AppendsPrefix err err' (told 1 all)
 cut_faults R text rest after n m r q words faults out mid err emid err' o o' e e' all sofar part wrote spoken =
@@ -54,13 +54,13 @@ cut_faults R text rest after n m r q words faults out mid err emid err' o o' e e
     let begins = part_begins R text after 0 m (r && q) (sofar.words ++ words) (sofar.faults ++ faults) all whole spoken in
     subst (λ t. AppendsPrefix err err' t) (sym begins.all_faults) (prefix_first err err' (sofar.faults ++ faults) (told (m + 1) begins.more) (prefix_then err emid err' sofar.faults faults sofar.err_part wrote))
 
-pub end_words : (R : Relation) (text rest : List ℕ) (n : ℕ) (r : Bool) (out out' err err' : Option (List ℕ)) (o o' e e' : ℕ) (all : List (Option (List ℕ)))
+pub end_words : (R : Relation) (text rest : List ℕ) (n : ℕ) (r : Bool) (out out' err err' : Option (List ℕ)) (o o' e e' : ℕ) (all : List Answer)
     → SoFar R text rest n r out out' err err' o o' e e' → AllSpoken R (lines text) all → AppendsPrefix out out' (written all)
 end_words R text rest n r out out' err err' o o' e e' all sofar spoken =
     let begins = part_begins R text rest 0 n r sofar.words sofar.faults all sofar.part spoken in
     subst (λ t. AppendsPrefix out out' t) (sym begins.all_words) (prefix_first out out' sofar.words (written begins.more) (prefix_all out out' sofar.words sofar.out_part))
 
-pub end_faults : (R : Relation) (text rest : List ℕ) (n : ℕ) (r : Bool) (out out' err err' : Option (List ℕ)) (o o' e e' : ℕ) (all : List (Option (List ℕ)))
+pub end_faults : (R : Relation) (text rest : List ℕ) (n : ℕ) (r : Bool) (out out' err err' : Option (List ℕ)) (o o' e e' : ℕ) (all : List Answer)
     → SoFar R text rest n r out out' err err' o o' e e' → AllSpoken R (lines text) all → AppendsPrefix err err' (told 1 all)
 end_faults R text rest n r out out' err err' o o' e e' all sofar spoken =
     let begins = part_begins R text rest 0 n r sofar.words sofar.faults all sofar.part spoken in

@@ -1,9 +1,9 @@
 -- What was found on a shelf.
-use Rattle.std.specs.Prelude.{◌≡◌, ◌≤◌, ℕ, List, Ok, Err, Some, Result, All}
+use Rattle.std.specs.Prelude.{◌≡◌, ℕ, List, [], ◌∷◌, Ok, Err, None, Some, Result, false}
 use Rattle.norm_base.specs.Files.{Files, file_of}
-use Rattle.weighted_relations.specs.Expressions.{Expression, Rel}
+use Rattle.weighted_relations.specs.Expressions.{Expression, IsSound, Rel, is_marked}
 use Rattle.weighted_relations.specs.Machines.{Machine, Reads}
-use Rattle.weighted_relations.specs.Relations.{Same}
+use Rattle.weighted_relations.specs.Relations.{Cascade, Same}
 use Rattle.speak_setup.specs.Setups.{SetupNames, SetupText, names_of}
 use Rattle.speak_setup.specs.declared.setup.Need.TheVariants.{Classifier}
 use Rattle.speak_setup.specs.declared.setup.Setup.{Setup}
@@ -11,25 +11,63 @@ use Rattle.speak_setup.specs.declared.setup.SetupFault.{SetupFault}
 use Rattle.thrax_link.specs.Exports.{exports_of}
 use Rattle.thrax_link.specs.Linking.{Linked, Outcome, exporting}
 use Rattle.thrax_link.specs.declared.grammar.Export.{Export}
-use Rattle.speak_core.specs.Accepted.{Asked, IsOnly, RuleAsks, GrammarAsks, NamesAsk, SetupAsks, spoken_by, refused}
+use Rattle.speak_core.specs.Accepted.{Asked, FirstEmpty, IsOnly, GrammarAsks, SetupAsks, spoken_by, refused}
+use Rattle.state_tuples.specs.Cascades.{Cascaded}
+use Rattle.grammar_build.specs.Empties.{RewritesEmptyText}
+use Rattle.speak_core.specs.Texts.{empty_text}
 use Rattle.speak_core.specs.declared.stop.Stop.{Stop}
 use Rattle.speak_core.specs.declared.stop.Stop.TheVariants as stop
 
--- the rule of one expression is asked for, and the transducer has its readings
-pub record Loaded (P : Asked → Type 0) (m : Machine) : Type 0 where
-  pub expression : Expression
-  pub is_only : IsOnly P (spoken_by expression)
-  pub readings : Same (Reads m) (Rel expression)
+-- the cascade of some expressions is asked for, and these parts have its readings
+pub record Loaded (P : Asked → Type 0) (c : Cascaded) : Type 0 where
+  pub expressions : List Expression
+  pub is_only : IsOnly P (spoken_by expressions)
+  pub readings : Same (Cascade Reads c.parts) (Cascade Rel expressions)
 
 -- A stop that tells a refusal is the one that is asked for; other stops say nothing of it.
 abbrev pub StopsAs : (Asked → Type 0) → Stop → Type 0
 StopsAs P (stop.Refused text) = IsOnly P (refused text.items)
 StopsAs P _ = Unit {0}
 
--- the rule that is asked for, or the refusal
-abbrev pub Finds : (Asked → Type 0) → Result Machine Stop → Type 0
-Finds P (Ok m) = Loaded P m
+-- the cascade that is asked for, or the refusal
+abbrev pub Finds : (Asked → Type 0) → Result Cascaded Stop → Type 0
+Finds P (Ok c) = Loaded P c
 Finds P (Err s) = StopsAs P s
+
+-- The text of a refusal is told where there is one. Want of memory says nothing of it.
+abbrev pub TellsText : {A : Type 0} → Result A (List ℕ) → Stop → Type 0
+TellsText found (stop.Refused text) = found ≡ Err text.items
+TellsText found stop.Memory = Unit {0}
+TellsText found _ = ⊥
+
+-- an expression that a transducer can be built for
+pub record CanBeBuilt (e : Expression) : Type 0 where
+  pub sound : IsSound e
+  pub unmarked : is_marked e ≡ false
+
+-- the refusal of a rule of which a rewrite may read the empty text
+abbrev pub TellsEmpty : List ℕ → Expression → Stop → Type 0
+TellsEmpty name e (stop.Refused text) = (text.items ≡ empty_text name) × RewritesEmptyText e
+TellsEmpty name e stop.Memory = Unit {0}
+TellsEmpty name e _ = ⊥
+
+-- the refusal of the first such rule
+abbrev pub TellsFirstEmpty : List (List ℕ) → List Expression → Stop → Type 0
+TellsFirstEmpty names es (stop.Refused text) = (name : List ℕ) × (text.items ≡ empty_text name) × FirstEmpty names es (Some name)
+TellsFirstEmpty names es stop.Memory = Unit {0}
+TellsFirstEmpty names es _ = ⊥
+
+-- each transducer has the readings of its expression
+abbrev pub AllReadAs : List Machine → List Expression → Type 0
+AllReadAs [] [] = Unit {0}
+AllReadAs [] (e ∷ es) = ⊥
+AllReadAs (m ∷ ms) [] = ⊥
+AllReadAs (m ∷ ms) (e ∷ es) = Same (Reads m) (Rel e) × AllReadAs ms es
+
+-- the transducers of these rules, of which no rewrite may read the empty text
+pub record AreBuilt (ms : List Machine) (names : List (List ℕ)) (es : List Expression) : Type 0 where
+  pub readings : AllReadAs ms es
+  pub complete : FirstEmpty names es None
 
 -- the file of this name is a setup of these names, and of no others
 pub record IsSetupFile (files : Files) (name : List ℕ) (names : SetupNames) : Type 0 where
@@ -48,7 +86,7 @@ pub record IsGrammarFile (files : Files) (name : List ℕ) (exports : List (List
   pub linked : Linked files name (exporting exports)
   pub only : (other : Outcome) → Linked files name other → other ≡ exporting exports
 
--- the grammar of this name, or the refusal of whichever rule is asked for
+-- the grammar of this name, or the refusal of whichever rules are asked for
 abbrev pub FindsGrammar : Files → List ℕ → Result (List Export) Stop → Type 0
 FindsGrammar files name (Ok grammar) = IsGrammarFile files name (exports_of grammar)
-FindsGrammar files name (Err s) = (rule : List ℕ) → StopsAs (GrammarAsks files name rule) s
+FindsGrammar files name (Err s) = (rules : List (List ℕ)) → StopsAs (GrammarAsks files name rules) s

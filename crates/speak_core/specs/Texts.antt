@@ -12,10 +12,6 @@ use Rattle.thrax_meaning.specs.declared.why.Why.TheVariants.{Read, NotFound, Unk
 abbrev pub absent_text : List ℕ
 absent_text = codes "setup: not found" ++ 10 ∷ []
 
--- the setup has several rules, which are not spoken yet
-abbrev pub several_text : List ℕ
-several_text = codes "not yet read" ++ 10 ∷ []
-
 -- the first fault of a setup (want of memory is none)
 abbrev pub setup_text : SetupFault → List ℕ
 setup_text (BadLine number) = codes "setup: line " ++ (decimal number ++ (codes " not understood" ++ 10 ∷ []))

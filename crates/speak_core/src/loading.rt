@@ -1,28 +1,32 @@
-// From the files of a shelf to the rule that they name.
+// From the files of a shelf to the cascade that they name.
 
-ghost use Rattle.std.specs.Prelude.{◌≡◌, ◌≤◌, ◌∷◌, [], All, length, IfErr, IfOk, IfSome, List, ℕ};
-ghost use Rattle.weighted_relations.specs.Machines.{Reads};
+ghost use Rattle.std.specs.Prelude.{◌≡◌, ◌≤◌, All, length, IfErr, IfOk, IfSome};
 ghost use Rattle.weighted_relations.specs.Relations.{IsUnmarked};
 ghost use Rattle.speak_setup.specs.Setups.{HasNames, names_of};
 ghost use Rattle.thrax_link.specs.Exports.{exports_of};
-ghost use Rattle.speak_core.specs.Accepted.{NamesAsk, RuleAsks, SetupAsks};
+ghost use Rattle.speak_core.specs.Accepted.{NamesAsk, SetupAsks};
 ghost use Rattle.speak_core.specs.Loaded.{Finds, FindsGrammar, FindsSetup};
-ghost use Rattle.speak_core.specs.Stops.{Counts, IsBuildStop, IsReadStop};
+ghost use Rattle.speak_core.specs.Parts.{ReadsOf};
+ghost use Rattle.speak_core.specs.Stops.{Counts, IsReadStop};
 
 use crate::outside::fetch;
+use crate::rules::cascade_of;
 use crate::stop::Stop;
 use crate::texts;
-use fst_core::Fst;
-use grammar_build::{BuildFault, build};
 use norm_base::{Name, Shelf};
 use speak_setup::{Need, Setup, SetupFault, read_setup};
+use state_tuples::Cascade;
 use std::alloc::Global;
 use thrax_link::{Grammar, LinkFault, link};
 
-/// The rule that the setup of this name asks for.
-pub(crate) fn find_rule<H: Shelf>(alloc: Global, shelf: &mut H, name: &str) -> Result<Fst, Stop>
+/// The cascade that the setup of this name asks for.
+pub(crate) fn find_cascade<H: Shelf>(
+    alloc: Global,
+    shelf: &mut H,
+    name: &str,
+) -> Result<Cascade, Stop>
     ensures finds { IfSome (H.files shelf.old) (λ files. Finds (SetupAsks files name.now) result) }
-    ensures unmarked { IfOk result (λ rule. IsUnmarked (Reads rule)) }
+    ensures unmarked { IfOk result (λ found. IsUnmarked (ReadsOf found)) }
     ensures files { H.files shelf.new ≡ H.files shelf.old }
     ensures counts { Counts (H.faults shelf.old) (H.faults shelf.new) result }
     ensures stops { IfErr result IsReadStop }
@@ -37,6 +41,7 @@ pub(crate) fn find_rule<H: Shelf>(alloc: Global, shelf: &mut H, name: &str) -> R
 fn find_setup<H: Shelf>(alloc: Global, shelf: &mut H, name: &str) -> Result<Setup, Stop>
     ensures finds { IfSome (H.files shelf.old) (λ files. FindsSetup files name.now result) }
     ensures names { IfOk result (λ setup. HasNames (names_of setup)) }
+    ensures few { IfOk result (λ setup. length (names_of setup).tokenizer_rules ≤ 4) }
     ensures files { H.files shelf.new ≡ H.files shelf.old }
     ensures counts { Counts (H.faults shelf.old) (H.faults shelf.new) result }
     ensures stops { IfErr result IsReadStop }
@@ -53,30 +58,20 @@ fn find_setup<H: Shelf>(alloc: Global, shelf: &mut H, name: &str) -> Result<Setu
     }
 }
 
-/// The rule of a setup.
-fn find_named<H: Shelf>(alloc: Global, shelf: &mut H, setup: &Setup) -> Result<Fst, Stop>
-    requires { HasNames (names_of setup.now) }
+/// The cascade of the rules of a setup.
+fn find_named<H: Shelf>(alloc: Global, shelf: &mut H, setup: &Setup) -> Result<Cascade, Stop>
+    requires names { HasNames (names_of setup.now) }
+    requires few { length (names_of setup.now).tokenizer_rules ≤ 4 }
     ensures finds { IfSome (H.files shelf.old) (λ files. Finds (NamesAsk files (names_of setup.now)) result) }
-    ensures unmarked { IfOk result (λ rule. IsUnmarked (Reads rule)) }
+    ensures unmarked { IfOk result (λ found. IsUnmarked (ReadsOf found)) }
     ensures files { H.files shelf.new ≡ H.files shelf.old }
     ensures counts { Counts (H.faults shelf.old) (H.faults shelf.new) result }
     ensures stops { IfErr result IsReadStop }
 {
-    if setup.tokenizer_rules.as_slice().len() != 1 {
-        return Err(Stop::refused(Vec::from_slice(alloc, b"not yet read\n")));
-    }
     match find_grammar(alloc, shelf, &setup.tokenizer) {
-        Ok(grammar) => build_rule(alloc, &grammar, &setup.tokenizer, first_rule(setup)),
+        Ok(grammar) => { cascade_of(alloc, &grammar, &setup.tokenizer, &setup.tokenizer_rules) }
         Err(stop) => Err(stop),
     }
-}
-
-/// The first rule of a setup.
-fn first_rule(setup: &Setup) -> &Name
-    requires { 1 ≤ length setup.now.tokenizer_rules.items }
-    ensures { length setup.now.tokenizer_rules.items ≡ 1 → setup.now.tokenizer_rules.items ≡ result.now ∷ [] }
-{
-    &setup.tokenizer_rules[0]
 }
 
 /// What the grammar file of this name exports.
@@ -98,24 +93,5 @@ fn find_grammar<H: Shelf>(alloc: Global, shelf: &mut H, file: &Name) -> Result<G
         ) => Err(Stop::refused(texts::refusal(alloc, &file, statement, why))),
         Err(LinkFault::ShelfFault) => Err(Stop::Outside),
         Err(LinkFault::Memory) => Err(Stop::Memory),
-    }
-}
-
-/// The transducer of this rule of what a file exports.
-fn build_rule(alloc: Global, grammar: &Grammar, file: &Name, rule: &Name) -> Result<Fst, Stop>
-    ensures finds { Finds (RuleAsks file.now rule.now (exports_of grammar.now)) result }
-    ensures unmarked { IfOk result (λ rule. IsUnmarked (Reads rule)) }
-    ensures stops { IfErr result IsBuildStop }
-{
-    let Some(e) = grammar.rule(rule) else {
-        return Err(Stop::refused(texts::no_rule(alloc, rule, file)));
-    };
-    if e.is_marked() {
-        return Err(Stop::refused(texts::marked(alloc, rule, file)));
-    }
-    match build(alloc, e) {
-        Ok(fst) => Ok(fst),
-        Err(BuildFault::RewritesEmpty) => { Err(Stop::refused(texts::rewrites_empty(alloc, rule))) }
-        Err(BuildFault::Memory) => Err(Stop::Memory),
     }
 }

@@ -11,7 +11,7 @@ ghost use Rattle.speak_core.specs.Loaded.{StopsAs};
 ghost use Rattle.speak_core.specs.Owed.{Owed, SpeaksAll};
 ghost use Rattle.speak_core.specs.Stops.{AllCounts, IsAccepted, IsRefusalStop};
 
-use crate::loading::find_rule;
+use crate::loading::find_cascade;
 use crate::outside::read_all;
 use crate::speaking::speak_lines;
 use crate::stop::Stop;
@@ -51,13 +51,13 @@ pub(crate) fn run<H: Shelf, S: Source, O: Sink, E: Sink>(
     let Some(name) = find_setup(words) else {
         return Err(Stop::Words);
     };
-    let rule = match find_rule(alloc, shelf, name) {
-        Ok(rule) => rule,
+    let cascade = match find_cascade(alloc, shelf, name) {
+        Ok(cascade) => cascade,
         Err(stop) => return Err(stop),
     };
     let input = match read_all(alloc, source) {
         Ok(input) => input,
         Err(stop) => return Err(stop),
     };
-    speak_lines(alloc, &rule, &input, out, err)
+    speak_lines(alloc, &cascade, &input, out, err)
 }

@@ -1,35 +1,34 @@
 // From the words of the command to the lines.
 
-ghost use Rattle.std.specs.Prelude.{◌≡◌, ◌≤◌, ◌^◌, IfErr, IfOk, List, ℕ, Option, OnOk, length};
+ghost use Rattle.std.specs.Prelude.{◌≡◌, ◌≤◌, ◌^◌, IfErr, IfOk, List, OnOk, length};
 ghost use Rattle.std.specs.Io.KnownBytes.{Appends};
 ghost use Rattle.norm_base.specs.Bytes.{AppendsPrefix};
-ghost use Rattle.weighted_relations.specs.Machines.{Reads};
 ghost use Rattle.weighted_relations.specs.Relations.{IsUnmarked};
-ghost use Rattle.speak_core.specs.Answers.{AllSpoken, written, told};
+ghost use Rattle.speak_core.specs.Answers.{Answer, AllSpoken, written, told};
 ghost use Rattle.text_lines.specs.Lines.{lines};
-ghost use Rattle.speak_core.specs.Parts.{Speaks};
+ghost use Rattle.speak_core.specs.Parts.{ReadsOf, Speaks};
 ghost use Rattle.speak_core.specs.Stops.{IsDeviceStop, SinkCounts};
 
 use crate::batches::speak_batch;
 use crate::outside::put;
 use crate::stop::Stop;
-use fst_core::Fst;
 use norm_base::Sink;
+use state_tuples::Cascade;
 use std::alloc::Global;
 
 /// Speaks each line of a text, and answers whether each was read. What was spoken before a stop is written, where it can be.
 pub(crate) fn speak_lines<O: Sink, E: Sink>(
     alloc: Global,
-    rule: &Fst,
+    cascade: &Cascade,
     text: &[u8],
     out: &mut O,
     err: &mut E,
 ) -> Result<bool, Stop>
-    requires unmarked { IsUnmarked (Reads rule.now) }
+    requires unmarked { IsUnmarked (ReadsOf cascade.now) }
     requires small { length text.now ≤ 2 ^ 28 }
-    ensures done { IfOk result (λ is_read. Speaks (Reads rule.now) (lines text.now) (O.held out.old) (O.held out.new) (E.held err.old) (E.held err.new) is_read) }
-    ensures out_front { (answers : List (Option (List ℕ))) → AllSpoken (Reads rule.now) (lines text.now) answers → AppendsPrefix (O.held out.old) (O.held out.new) (written answers) }
-    ensures err_front { (answers : List (Option (List ℕ))) → AllSpoken (Reads rule.now) (lines text.now) answers → AppendsPrefix (E.held err.old) (E.held err.new) (told 1 answers) }
+    ensures done { IfOk result (λ is_read. Speaks (ReadsOf cascade.now) (lines text.now) (O.held out.old) (O.held out.new) (E.held err.old) (E.held err.new) is_read) }
+    ensures out_front { (answers : List Answer) → AllSpoken (ReadsOf cascade.now) (lines text.now) answers → AppendsPrefix (O.held out.old) (O.held out.new) (written answers) }
+    ensures err_front { (answers : List Answer) → AllSpoken (ReadsOf cascade.now) (lines text.now) answers → AppendsPrefix (E.held err.old) (E.held err.new) (told 1 answers) }
     ensures counts { SinkCounts (O.faults out.old) (O.faults out.new) (E.faults err.old) (E.faults err.new) result }
     ensures later { E.faults err.old ≤ E.faults err.new }
     ensures stops { IfErr result IsDeviceStop }
@@ -38,7 +37,7 @@ pub(crate) fn speak_lines<O: Sink, E: Sink>(
     let mut number = 0u64;
     let mut is_read = true;
     while !rest.is_empty() {
-        let batch = speak_batch(alloc, rule, rest, number);
+        let batch = speak_batch(alloc, cascade, rest, number);
         put_both(out, &batch.words, err, &batch.faults)?;
         if !batch.is_whole {
             return Err(Stop::Memory);

@@ -208,7 +208,7 @@ const SPOKEN: [(&[u8], (&str, &[u8]), &[u8], &[u8], &[u8], u8); 39] = [
         ("", b""),
         b"a\0a\naa\n",
         b"\naa\n",
-        b"line 1: no path\n",
+        b"line 1: byte 0 at 1\n",
         1,
     ),
     // closures
@@ -527,7 +527,7 @@ const SETUPS: [(&[u8], &[u8]); 8] = [
     ),
     (
         b"tokenizer_grammar: \"no.grm\"\ntokenizer_rule: \"A\"\ntokenizer_rule: \"B\"\n",
-        b"not yet read\n",
+        b"no.grm: statement 0: not found no.grm\n",
     ),
     (
         b"tokenizer_rule: \"A\"\ntokenizer_rule: \"B\"\n",
@@ -542,6 +542,173 @@ const SETUPS: [(&[u8], &[u8]); 8] = [
         b"setup: no rule OTHER in g.grm\n",
     ),
 ];
+
+// The names of some rules, their grammar, an input, the output, the errors, the status.
+const CASCADES: [(&[&str], &[u8], &[u8], &[u8], &[u8], u8); 17] = [
+    // moves that read nothing and moves that write nothing
+    (
+        &["A", "B", "C", "D"],
+        b"export A = \"a\" : \"b\"; export B = \"b\" : \"\"; export C = \"\" : \"c\"; export D = \"c\" : \"d\";",
+        b"a\n",
+        b"d\n",
+        b"",
+        0,
+    ),
+    (
+        &["ONE", "TWO"],
+        b"export ONE = (\"a\" : \"\"); export TWO = (\"\" : \"z\");",
+        b"a\n",
+        b"z\n",
+        b"",
+        0,
+    ),
+    (
+        &["A", "B", "C"],
+        b"export A = \"a\" : \"\"; export B = (\"\" : \"x\")*; export C = \"xx\" : \"y\";",
+        b"a\n",
+        b"y\n",
+        b"",
+        0,
+    ),
+    (
+        &["A", "B", "C", "D"],
+        b"export A = (\"a\" : \"\") (\"\" : \"x\"); export B = (\"x\" : \"\") (\"\" : \"y\"); export C = (\"\" : \"\")* (\"y\" : \"z\"); export D = (\"\" : \"p\")* (\"z\" : \"q\") (\"\" : \"r\");",
+        b"a\n",
+        b"qr\n",
+        b"",
+        0,
+    ),
+    // cycles that read and write nothing in the middle rule, where each round has a weight
+    (
+        &["A", "B", "C"],
+        b"export A = \"a\" : \"b\"; export B = (\"\" : \"\" <1>)* (\"b\" : \"c\") (\"\" : \"\" <1>){2,4}; export C = (\"c\" : \"d\" <2>) | (\"\" : \"\")* (\"c\" : \"e\" <2.0001>);",
+        b"a\n",
+        b"d\n",
+        b"",
+        0,
+    ),
+    // ties in each rule
+    (
+        &["A", "B", "C"],
+        b"export A = (\"a\" : \"b\") | (\"a\" : \"c\"); export B = (\"b\" : \"d\") | (\"c\" : \"d\") | (\"c\" : \"e\"); export C = (\"d\" : \"x\") | (\"e\" : \"x\") | (\"d\" : \"wv\") | (\"e\" : \"w\");",
+        b"a\n",
+        b"w\n",
+        b"",
+        0,
+    ),
+    // a rule twice, and the order of the rules
+    (
+        &["A", "A"],
+        b"export A = (\"a\" : \"b\") | (\"b\" : \"c\");",
+        b"a\nb\n",
+        b"c\n\n",
+        b"line 2: no path\n",
+        1,
+    ),
+    (
+        &["B", "A"],
+        b"export A = \"a\" : \"b\"; export B = \"b\" : \"a\";",
+        b"b\na\n",
+        b"b\n\n",
+        b"line 2: no path\n",
+        1,
+    ),
+    // the weights of all rules are added, and ties are broken by what the last one writes
+    (
+        &["A", "B"],
+        b"export A = (\"a\" : \"b\" <2>) | (\"a\" : \"c\" <1>); export B = (\"b\" : \"x\") | (\"c\" : \"y\" <2>);",
+        b"a\n",
+        b"x\n",
+        b"",
+        0,
+    ),
+    (
+        &["A", "B"],
+        b"export A = (\"a\" : \"b\" <2>) | (\"a\" : \"c\" <1>); export B = (\"b\" : \"x\" <.5>) | (\"c\" : \"yy\" <1.4999>);",
+        b"a\n",
+        b"yy\n",
+        b"",
+        0,
+    ),
+    (
+        &["A", "B"],
+        b"export A = (\"a\" : \"bb\") | (\"a\" : \"c\"); export B = (\"bb\" : \"x\") | (\"c\" : \"xx\") | (\"c\" : \"w\");",
+        b"a\n",
+        b"w\n",
+        b"",
+        0,
+    ),
+    (
+        &["A", "B"],
+        b"s = (\"a\" | \"b\")*; export A = CDRewrite[\"a\" : \"b\", \"a\", \"\", s]; export B = CDRewrite[\"b\" : \"\", \"b\", \"\", s];",
+        b"aaa\nabb\n",
+        b"aba\nab\n",
+        b"",
+        0,
+    ),
+    // the first rule that isn't exported or is marked, and only then the first that rewrites the empty text
+    (
+        &["A", "MARKED", "MISSING"],
+        b"export A = \"a\"; export MARKED = \"[BOS]\";",
+        b"a\n",
+        b"",
+        b"setup: rule MARKED in g.grm holds a mark\n",
+        3,
+    ),
+    (
+        &["A", "MISSING", "MARKED"],
+        b"export A = \"a\"; export MARKED = \"[BOS]\";",
+        b"a\n",
+        b"",
+        b"setup: no rule MISSING in g.grm\n",
+        3,
+    ),
+    (
+        &["EMPTY", "MISSING"],
+        b"export EMPTY = CDRewrite[\"\" : \"b\", \"\", \"\", \"a\"*];",
+        b"a\n",
+        b"",
+        b"setup: no rule MISSING in g.grm\n",
+        3,
+    ),
+    (
+        &["A", "EMPTY", "MARKED"],
+        b"export A = \"a\"; export EMPTY = CDRewrite[\"\" : \"b\", \"\", \"\", \"a\"*]; export MARKED = \"[EOS]\";",
+        b"a\n",
+        b"",
+        b"setup: rule MARKED in g.grm holds a mark\n",
+        3,
+    ),
+    (
+        &["A", "SECOND", "FIRST"],
+        b"export A = \"a\"; export FIRST = CDRewrite[\"\" : \"b\", \"\", \"\", \"a\"*]; export SECOND = \"a\" | FIRST;",
+        b"a\n",
+        b"",
+        b"setup: rule SECOND rewrites the empty text\n",
+        3,
+    ),
+];
+
+/// The setup of these rules of `g.grm`.
+fn setup_of(alloc: Global, rules: &[&str]) -> Result<String, AllocError> {
+    let mut setup = String::from_str(alloc, "tokenizer_grammar: \"g.grm\"\n")?;
+    for rule in rules {
+        setup.push_str(&format!(in alloc; "tokenizer_rule: \"{rule}\"\n")?)?;
+    }
+    Ok(setup)
+}
+
+#[test]
+fn cascades_are_spoken(rt: HostRuntime) -> Result<(), Fail> {
+    for (rules, grammar, input, out, err, status) in CASCADES {
+        let setup = setup_of(rt.alloc(), rules)?;
+        let left = run_files(&rt, rt.alloc(), setup.as_bytes(), grammar, ("", b""), input)?;
+        assert_eq!(rt; left.err.bytes(), err);
+        assert_eq!(rt; left.out.bytes(), out);
+        assert_eq!(rt; left.status, status);
+    }
+    Ok(())
+}
 
 #[test]
 fn lines_are_spoken(rt: HostRuntime) -> Result<(), Fail> {
@@ -645,19 +812,38 @@ fn a_chain_of_33_files_is_refused(rt: HostRuntime) -> Result<(), Fail> {
     Ok(())
 }
 
+// A text and so many bytes `a`, as a line.
+fn line_of(alloc: Global, text: &[u8], count: usize) -> Result<Vec<u8>, AllocError> {
+    let mut line = Vec::from_slice(alloc, text)?;
+    line.extend_from_slice(&vec![in alloc; b'a'; count]?)?;
+    line.push(b'\n')?;
+    Ok(line)
+}
+
 #[test]
-fn a_long_line_is_searched(rt: HostRuntime) -> Result<(), Fail> {
-    let line = vec![in rt.alloc(); b'a'; 16_385]?;
+fn the_first_fault_of_a_line_is_told(rt: HostRuntime) -> Result<(), Fail> {
+    let alloc = rt.alloc();
+    let mut input = Vec::from_slice(alloc, b"ab\0\n")?;
+    input.extend_from_slice(&line_of(alloc, b"", 16_385)?)?;
+    input.extend_from_slice(&line_of(alloc, b"", 16_384)?)?;
+    input.extend_from_slice(&line_of(alloc, b"\0b\0", 16_385)?)?;
+    input.extend_from_slice(b"b\n")?;
     let left = run_files(
         &rt,
-        rt.alloc(),
+        alloc,
         SETUP,
-        b"export MAIN = \"a\" : \"b\";",
+        b"export MAIN = \"a\"*;",
         ("", b""),
-        &line,
+        &input,
     )?;
-    assert_eq!(rt; left.out.bytes(), b"\n".as_slice());
-    assert_eq!(rt; left.err.bytes(), b"line 1: no path\n".as_slice());
+    let mut out = Vec::from_slice(alloc, b"\n\n")?;
+    out.extend_from_slice(&line_of(alloc, b"", 16_384)?)?;
+    out.extend_from_slice(b"\n\n")?;
+    assert_eq!(rt; left.out.bytes(), out.as_slice());
+    assert_eq!(rt;
+        left.err.bytes(),
+        b"line 1: byte 0 at 2\nline 2: longer than 16384 bytes\nline 4: byte 0 at 0\nline 5: no path\n".as_slice()
+    );
     assert_eq!(rt; left.status, 1);
     Ok(())
 }

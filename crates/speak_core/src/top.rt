@@ -20,14 +20,15 @@ use norm_base::{Shelf, Sink, Source};
 use std::alloc::Global;
 use std::thread::Threads;
 
-/// Speaks the lines of the source by the rule that the words and the files of the shelf name, and answers the status.
+/// Speaks the lines of the source by the cascade of rules that the words and the files of the shelf name, and answers the status.
 ///
 /// The words after the program's name are `--setup`, the name of a setup, `--mode` and `classify`. The setup's grammar is linked
-/// with all that it imports, and its one rule is built. Then the whole input is read, of at most 268,435,456 bytes, and `out`
-/// gets for each line the output of its least reading and a LF, or the LF alone where it has no reading, and `err` gets the
-/// number of each such line.
+/// with all that it imports, and its one to four rules are looked up and built. Then the whole input is read, of at most
+/// 268,435,456 bytes, and `out` gets for each line the output of its least reading through all rules, one after another, and a
+/// LF, or the LF alone where the line is refused. `err` gets the number of each such line with its first fault: a byte 0, more
+/// than 16,384 bytes, or no reading. An empty line says nothing and isn't refused.
 ///
-/// Status 0: each line was read. 1: some line has no reading. 2: the words are wrong. 3: the setup, a grammar or the rule is
+/// Status 0: each line was read. 1: some line is refused. 2: the words are wrong. 3: the setup, a grammar or a rule is
 /// refused. 4: a device failed. 5: memory is wanting. 6: the input is too long. From 2 on, the cause is told to `err` last.
 ///
 /// The watch isn't told of any line yet.
@@ -66,8 +67,8 @@ pub fn speak<R: Threads + Sync, H: Shelf, S: Source, O: Sink, E: Sink, W: Watch 
     ensures silent { (result ≡ 2) ⊎ (result ≡ 3) → O.held out.new ≡ O.held out.old }
 
     // With all accepted, no count that rose and an input within its limit, the lines are spoken or memory is wanting.
-    ensures complete { IfSome (H.files shelf.old) (λ files. IfSome (S.left source.old) (λ input. (e : Expression)
-        → Accepted words.now files e → length input ≤ 2 ^ 28
+    ensures complete { IfSome (H.files shelf.old) (λ files. IfSome (S.left source.old) (λ input. (es : List Expression)
+        → Accepted words.now files es → length input ≤ 2 ^ 28
         → (SomeRose (H.faults shelf.old) (H.faults shelf.new) (S.faults source.old) (S.faults source.new)
         (O.faults out.old) (O.faults out.new) (E.faults err.old) (E.faults err.new) → ⊥)
         → (result ≤ 1) ⊎ (result ≡ 5))) }

@@ -1,7 +1,6 @@
 use Rattle.std.proofs.Common.{◌≡◌, ◌∙◌, ◌&&◌, ◌<◌, [], length, sym, subst, rules, arith}
 use Rattle.std.proofs.lemmas.Grind.{common_steps}
-use Rattle.weighted_relations.specs.Machines.{Reads}
-use Rattle.speak_core.specs.Parts.{SpokenPart}
+use Rattle.speak_core.specs.Parts.{ReadsOf, SpokenPart}
 use Rattle.speak_core.proofs.Spoken.{part_none, part_step}
 use Rattle.speak_core.proofs.batches.speak_batch.Goals as goal
 use Rattle.speak_core.proofs.batches.speak_batch.Goals.{then-is_read, else-is_read}
@@ -9,9 +8,9 @@ use Rattle.speak_core.proofs.batches.speak_batch.Goals.{then-is_read, else-is_re
 pub loop-now_read-init : goal.loop-now_read-init
 loop-now_read-init c = (
   c.requires.some,
-  subst (λ w. SpokenPart (Reads c.args.rule.now) c.args.text.now c.args.text.now c.args.before c.args.before _ w c.new-faults.result.items) (sym c.new-words.ensures.items)
-      (subst (λ f. SpokenPart (Reads c.args.rule.now) c.args.text.now c.args.text.now c.args.before c.args.before _ [] f) (sym c.new-faults.ensures.items)
-      (part_none (Reads c.args.rule.now) c.args.text.now c.args.before)),
+  subst (λ w. SpokenPart (ReadsOf c.args.cascade.now) c.args.text.now c.args.text.now c.args.before c.args.before _ w c.new-faults.result.items) (sym c.new-words.ensures.items)
+      (subst (λ f. SpokenPart (ReadsOf c.args.cascade.now) c.args.text.now c.args.text.now c.args.before c.args.before _ [] f) (sym c.new-faults.ensures.items)
+      (part_none (ReadsOf c.args.cascade.now) c.args.text.now c.args.before)),
 )
 
 pub returns-then-is_empty-clause-part : goal.returns-then-is_empty-clause-part
