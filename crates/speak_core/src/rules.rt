@@ -18,10 +18,15 @@ use compose_filter::ByInput;
 use core_expressions::Expr;
 use fst_core::Fst;
 use grammar_build::{BuildFault, build};
+use merged_arcs::merge_arcs;
 use norm_base::Name;
 use state_tuples::Cascade;
 use std::alloc::{AllocError, Global};
+use std::cmp::max;
 use thrax_link::Grammar;
+
+/// A transducer may grow to so many states where its arcs are merged, or to twice its own.
+const FEW_STATES: usize = 1000;
 
 /// The cascade of the rules of these names, in order. All are looked up before the first is built.
 pub(crate) fn cascade_of(
@@ -107,7 +112,7 @@ fn build_all(alloc: Global, names: &[Name], rules: &[&Expr]) -> Result<Vec<Fst>,
     Ok(parts)
 }
 
-/// The transducer of a rule, with its arcs in the order of their inputs.
+/// The transducer of a rule, as a search likes it.
 fn build_one(alloc: Global, name: &Name, rule: &Expr) -> Result<Fst, Stop>
     requires { CanBeBuilt (expression_of rule.now) }
     ensures readings { IfOk result (λ m. Same (Reads m) (Rel (expression_of rule.now))) }
@@ -117,11 +122,29 @@ fn build_one(alloc: Global, name: &Name, rule: &Expr) -> Result<Fst, Stop>
 {
     match build(alloc, rule) {
         Ok(fst) => {
-            let part = in_order(alloc, &fst)?;
+            let part = prepared(alloc, &fst)?;
             Ok(part)
         }
         Err(BuildFault::RewritesEmpty) => Err(Stop::refused(texts::rewrites_empty(alloc, name))),
         Err(BuildFault::Memory) => Err(Stop::Memory),
+    }
+}
+
+/// The same transducer without two arcs of a state that say the same, where it doesn't grow much by that, and with the arcs of each state
+/// in order. So what a rewrite has to guess of the text to come waits until it matters, and a search follows fewer states.
+fn prepared(alloc: Global, fst: &Fst) -> Result<Fst, AllocError>
+    ensures { IfOk result (λ m. Same (Reads m) (Reads fst.now)) }
+{
+    let most = max(2 * fst.len(), FEW_STATES);
+    match merge_arcs(alloc, fst, most)? {
+        Some(merged) => {
+            let part = in_order(alloc, &merged)?;
+            Ok(part)
+        }
+        None => {
+            let part = in_order(alloc, fst)?;
+            Ok(part)
+        }
     }
 }
 

@@ -1,0 +1,5 @@
+pub mod Numbering
+pub mod Readings
+pub mod Gathering
+pub mod Merging
+pub mod Building
