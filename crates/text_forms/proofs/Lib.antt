@@ -1,0 +1,5 @@
+pub mod Chains
+pub mod Digits
+pub mod Lists
+pub mod Runs
+pub mod Taking
