@@ -1,0 +1,4 @@
+pub mod Orders
+pub mod Remainders
+pub mod Sources
+pub mod Tables

@@ -1,0 +1,7 @@
+pub mod Fronts
+pub mod Leading
+pub mod Once
+pub mod Records
+pub mod RoundTrip
+pub mod Sound
+pub mod Wholes
