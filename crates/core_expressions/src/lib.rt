@@ -8,7 +8,5 @@ mod copies;
 mod expressions;
 mod marks;
 mod sizes;
-#[cfg(test)]
-mod tests;
 
 pub use expressions::{Expr, Mode, RewriteOf, Side};

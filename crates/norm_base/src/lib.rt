@@ -27,6 +27,3 @@ pub use memory::{MemShelf, MemSink, MemSource};
 pub use name::Name;
 pub use streams::{ReaderSource, WriterSink};
 pub use sure::{SureShelf, SureSink, SureSource};
-
-#[cfg(test)]
-mod tests;

@@ -1,9 +1,9 @@
 -- The values of a setup.
-use Rattle.std.proofs.Common.{◌≡◌, ◌≤◌, ℕ, List, [], ◌∷◌, Bool, true, false, ◌&&◌, ◌==◌, None, Some, Ok, Err, Result, Option, IfSome, IfOk, length, refl, sym, ap, ◌∙◌, subst, arith}
+use Rattle.std.proofs.Common.{◌≡◌, ◌≤◌, ℕ, List, [], ◌∷◌, Bool, true, false, ◌&&◌, ◌==◌, None, Some, Ok, Err, Result, Option, IfSome, IfOk, length, refl, subst, arith}
 use Rattle.std.proofs.lemmas.Bool.{leb-true}
 use Rattle.std.specs.List.{All}
-use Rattle.speak_setup.specs.Forms.{IsValue, IsEntry, is_value_byte}
-use Rattle.speak_setup.specs.Setups.{Entry, Gives, AllGive, IsSetup, HasNames, SetupNames, SetupText, is_setup, same_key, values, first_missing, needed, names_of, outcome_of}
+use Rattle.speak_setup.specs.Forms.{IsValue, is_value_byte}
+use Rattle.speak_setup.specs.Setups.{Entry, AllGive, IsSetup, HasNames, SetupNames, SetupText, is_setup, same_key, values, first_missing, needed, most_rules, names_of, outcome_of}
 use Rattle.speak_setup.specs.declared.key.Key.{Key}
 use Rattle.speak_setup.specs.declared.key.Key.TheVariants.{TokenizerGrammar, TokenizerRule, VerbalizerGrammar, VerbalizerRule}
 use Rattle.speak_setup.specs.declared.setup.Need.{Need}
@@ -61,6 +61,7 @@ names_known : (need : Need) (all : List (List ℕ)) (names : SetupNames) → IsS
 names_known need all names s = record {
   printed = value_printed names.tokenizer (subst AreValues s.tokenizer (values_are all s.given TokenizerGrammar s.are_free.gives)).0;
   some = subst (λ l. 1 ≤ length l) s.tokenizer_rules (some_values s.given need s.complete);
+  few = subst (λ l. length l ≤ most_rules) s.tokenizer_rules (s.are_free.fit TokenizerRule);
 }
 
 setup_names : (need : Need) (text : List ℕ) (names : SetupNames) → SetupText need text (Ok names) → HasNames names

@@ -42,12 +42,16 @@ values [] key = []
 values (None ∷ all) key = values all key
 values (Some entry ∷ all) key = if same_key entry.key key then entry.value ∷ values all key else values all key
 
+-- how many rules a cascade may have
+abbrev pub most_rules : ℕ
+most_rules = 4
+
 -- how often a key may come
 abbrev pub most : Key → ℕ
 most TokenizerGrammar = 1
-most TokenizerRule = 4
+most TokenizerRule = most_rules
 most VerbalizerGrammar = 1
-most VerbalizerRule = 4
+most VerbalizerRule = most_rules
 
 -- the lines give this, and no key comes more often than it may
 pub record AreFree (lines : List (List ℕ)) (given : List (Option Entry)) : Type 0 where
@@ -115,6 +119,7 @@ names_of setup = record {
 pub record HasNames (names : SetupNames) : Type 0 where
   pub printed : All (λ b. (32 ≤ b) × (b ≤ 126)) names.tokenizer
   pub some : 1 ≤ length names.tokenizer_rules
+  pub few : length names.tokenizer_rules ≤ most_rules
 
 -- no line is at fault, no key is missing, and these are the values
 pub record IsSetup (need : Need) (lines : List (List ℕ)) (names : SetupNames) : Type 0 where

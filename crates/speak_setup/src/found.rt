@@ -8,12 +8,9 @@ ghost use Rattle.speak_setup.specs.declared.key.Key.{Key};
 ghost use Rattle.speak_setup.specs.declared.setup.SetupFault.TheVariants.{Memory, Missing};
 
 use crate::key::Key;
-use crate::setup::{Need, Setup, SetupFault};
+use crate::setup::{MOST_RULES, Need, Setup, SetupFault};
 use norm_base::Name;
 use std::alloc::{AllocError, Global};
-
-/// How many rules a cascade may have.
-const MOST_RULES: usize = 4;
 
 /// The values of the entries that were read so far.
 #[derive(Drop)]

@@ -10,7 +10,5 @@ mod found;
 mod key;
 mod line;
 mod setup;
-#[cfg(test)]
-mod tests;
 
-pub use setup::{Need, Setup, SetupFault, read_setup};
+pub use setup::{MOST_RULES, Need, Setup, SetupFault, read_setup};

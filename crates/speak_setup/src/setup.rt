@@ -8,6 +8,9 @@ use norm_base::Name;
 use std::alloc::{AllocError, AllocFailed, Global};
 use thiserror::Error;
 
+/// How many rules a cascade may have.
+pub const MOST_RULES: usize = 4;
+
 /// Which parts of a setup a run needs.
 #[derive(Clone, Copy, Debug, PartialEq, Eq)]
 pub enum Need {
@@ -22,11 +25,11 @@ pub enum Need {
 pub struct Setup {
     /// The name of the tokeniser's grammar.
     pub tokenizer: Name,
-    /// The 1 to 4 rules of the tokeniser, in the order of their cascade.
+    /// The rules of the tokeniser, 1 to [`MOST_RULES`], in the order of their cascade.
     pub tokenizer_rules: Vec<Name>,
     /// The name of the verbaliser's grammar.
     pub verbalizer: Option<Name>,
-    /// The rules of the verbaliser, at most 4, in the order of their cascade.
+    /// The rules of the verbaliser, at most [`MOST_RULES`], in the order of their cascade.
     pub verbalizer_rules: Vec<Name>,
 }
 
@@ -66,14 +69,11 @@ impl<T: Drop> From<AllocFailed<T>> for SetupFault {
 ///
 /// A line gives a key a value in double quotes, as `tokenizer_rule: "MAIN"`; lines of spaces and tabs, and those that begin with
 /// `#`, are skipped. The keys are `tokenizer_grammar`, `tokenizer_rule`, `verbalizer_grammar` and `verbalizer_rule`, in any order;
-/// a grammar comes once and a rule up to four times.
+/// a grammar comes once and a rule up to [`MOST_RULES`] times.
 pub fn read_setup(alloc: Global, text: &[u8], need: Need) -> Result<Setup, SetupFault>
     ensures read { IfSome (outcome_of result) (λ outcome. SetupText need text.now outcome) }
     ensures only { IfSome (outcome_of result) (λ outcome. (other : Result SetupNames SetupFault) → SetupText need text.now other → other ≡ outcome) }
     ensures names { IfOk result (λ setup. HasNames (names_of setup)) }
 {
-    match read_entries(alloc, text) {
-        Ok(found) => found.complete(alloc, need),
-        Err(fault) => Err(fault),
-    }
+    read_entries(alloc, text)?.complete(alloc, need)
 }

@@ -5,7 +5,5 @@
 #![tactic(auto)]
 
 mod cuts;
-#[cfg(test)]
-mod tests;
 
 pub use cuts::first_line;

@@ -3,16 +3,18 @@ use Rattle.std.proofs.Common.{◌≡◌, ◌∙◌, sym, ap, subst, refl, arith,
 use Rattle.std.proofs.Math.Seq.{take-append_seam}
 use Rattle.std.proofs.lemmas.List.{length-append}
 use Rattle.std.proofs.lemmas.Bool.Decides.{nat_tests}
-use Rattle.thrax_lexer.specs.Answers.{Takes}
-use Rattle.thrax_lexer.specs.Bytes.{Run, is_of, starts}
-use Rattle.thrax_lexer.specs.declared.bytes.ByteKind.TheVariants.{Wordy, Digit, Quotable, InComment, InWeight}
+use Rattle.text_forms.specs.Answers.{Takes}
+use Rattle.text_forms.specs.Bytes.{Run, is_of}
+use Rattle.thrax_lexer.specs.Bytes.{starts, is_inside}
+use Rattle.text_forms.specs.declared.bytes.ByteKind.TheVariants.{Wordy, Digit}
+use Rattle.thrax_lexer.specs.declared.bytes.Inside.TheVariants as inner
 use Rattle.thrax_lexer.specs.declared.bytes.Symbol.{Symbol}
 use Rattle.thrax_lexer.specs.declared.bytes.Start.{Start}
 use Rattle.thrax_lexer.specs.declared.bytes.Start.TheVariants.{Blank, Comment, Word, Number, Weight, Text, Quoted, Symbol as Single, Nothing}
-use Rattle.thrax_lexer.specs.Numbers.{value, value_from, digit_value, Decimal}
+use Rattle.text_forms.specs.Numbers.{value, value_from, digit_value, Decimal}
 use Rattle.thrax_lexer.specs.Lexemes.{Lex, number, weight, string, quoted, symbol, word_lex, NumberAt, WeightAt, QuotedAt, Front, Piece}
-use Rattle.thrax_lexer.proofs.Digits.{decimal_once}
-use Rattle.thrax_lexer.proofs.Runs.{run_once}
+use Rattle.text_forms.proofs.Digits.{decimal_once}
+use Rattle.text_forms.proofs.Runs.{run_once}
 use Rattle.thrax_lexer.specs.Strings.{Closed}
 
 -- what the first byte begins is what stands there
@@ -31,8 +33,8 @@ blank_takes b a = record { found = (refl, refl); only = λ i c p. p }
 pub symbol_takes : (s : Symbol) (b : ℕ) (a : List ℕ) → Takes (Front (Single s) b a) (Some (symbol s)) a
 symbol_takes s b a = record { found = (refl, refl); only = λ i c p. p }
 
-pub comment_takes : (b : ℕ) (a x c : List ℕ) → Run (is_of InComment) a x c → Takes (Front Comment b a) None c
-comment_takes b a x c r = record { found = (x, refl, r); only = λ i d p. (p.1, (run_once (is_of InComment) a x c p.0 d r p.2).1) }
+pub comment_takes : (b : ℕ) (a x c : List ℕ) → Run (is_inside inner.Comment) a x c → Takes (Front Comment b a) None c
+comment_takes b a x c r = record { found = (x, refl, r); only = λ i d p. (p.1, (run_once (is_inside inner.Comment) a x c p.0 d r p.2).1) }
 
 take_run : (text : List ℕ) (b : ℕ) (a x c : List ℕ) → text ≡ b ∷ a → Run (is_of Wordy) a x c → take (suc (length x)) text ≡ b ∷ x
 take_run text b a x c e r = ap (take (suc (length x))) (e ∙ ap (λ v. b ∷ v) r.split) ∙ ap (λ v. b ∷ v) (take-append_seam x c)
@@ -77,35 +79,35 @@ pub number_long : (a digits c : List ℕ) → Run (is_of Digit) a digits c → 4
 number_long a digits c r h n d p = let o = run_once (is_of Digit) a digits c p.digits d r p.run in omega (arith, h, p.few, ap length o.0)
 
 -- weights
-pub weight_takes : (a inside left c : List ℕ) (w : ℕ) → Run (is_of InWeight) a inside left → left ≡ 62 ∷ c → Decimal inside w → w < 2 ^ 32 → Takes (WeightAt a) w c
+pub weight_takes : (a inside left c : List ℕ) (w : ℕ) → Run (is_inside inner.Weight) a inside left → left ≡ 62 ∷ c → Decimal inside w → w < 2 ^ 32 → Takes (WeightAt a) w c
 weight_takes a inside left c w r e d h = record {
-  found = record { inside = inside; run = subst (λ v. Run (is_of InWeight) a inside v) e r; says = d; small = h };
+  found = record { inside = inside; run = subst (λ v. Run (is_inside inner.Weight) a inside v) e r; says = d; small = h };
   only = λ v x p.
-      let o = run_once (is_of InWeight) a inside left p.inside (62 ∷ x) r p.run in
+      let o = run_once (is_inside inner.Weight) a inside left p.inside (62 ∷ x) r p.run in
       let f : 62 ∷ x ≡ 62 ∷ c = o.1 ∙ e in
       (decimal_once d (subst (λ y. Decimal y v) o.0 p.says), cc);
 }
 
-pub weight_open : (a inside left : List ℕ) → Run (is_of InWeight) a inside left → ((c : List ℕ) → left ≡ 62 ∷ c → ⊥) → (w : ℕ) (c : List ℕ) → WeightAt a w c → ⊥
-weight_open a inside left r n w c p = n c (sym (run_once (is_of InWeight) a inside left p.inside (62 ∷ c) r p.run).1)
+pub weight_open : (a inside left : List ℕ) → Run (is_inside inner.Weight) a inside left → ((c : List ℕ) → left ≡ 62 ∷ c → ⊥) → (w : ℕ) (c : List ℕ) → WeightAt a w c → ⊥
+weight_open a inside left r n w c p = n c (sym (run_once (is_inside inner.Weight) a inside left p.inside (62 ∷ c) r p.run).1)
 
-pub weight_wrong : (a inside left : List ℕ) → Run (is_of InWeight) a inside left → ((w : ℕ) → Decimal inside w → 2 ^ 32 ≤ w) → (w : ℕ) (c : List ℕ) → WeightAt a w c → ⊥
+pub weight_wrong : (a inside left : List ℕ) → Run (is_inside inner.Weight) a inside left → ((w : ℕ) → Decimal inside w → 2 ^ 32 ≤ w) → (w : ℕ) (c : List ℕ) → WeightAt a w c → ⊥
 weight_wrong a inside left r n w c p =
-    let o = run_once (is_of InWeight) a inside left p.inside (62 ∷ c) r p.run in
+    let o = run_once (is_inside inner.Weight) a inside left p.inside (62 ∷ c) r p.run in
     let h = n w (subst (λ y. Decimal y w) o.0 p.says) in omega (arith, h, p.small)
 
 -- quoted texts
-pub quoted_takes : (a bytes left c : List ℕ) → Run (is_of Quotable) a bytes left → left ≡ 39 ∷ c → 0 < length bytes → Takes (QuotedAt a) bytes c
+pub quoted_takes : (a bytes left c : List ℕ) → Run (is_inside inner.Quotes) a bytes left → left ≡ 39 ∷ c → 0 < length bytes → Takes (QuotedAt a) bytes c
 quoted_takes a bytes left c r e h = record {
-  found = record { run = subst (λ v. Run (is_of Quotable) a bytes v) e r; some = h };
-  only = λ x d p. let o = run_once (is_of Quotable) a bytes left x (39 ∷ d) r p.run in let f : 39 ∷ d ≡ 39 ∷ c = o.1 ∙ e in (o.0, cc);
+  found = record { run = subst (λ v. Run (is_inside inner.Quotes) a bytes v) e r; some = h };
+  only = λ x d p. let o = run_once (is_inside inner.Quotes) a bytes left x (39 ∷ d) r p.run in let f : 39 ∷ d ≡ 39 ∷ c = o.1 ∙ e in (o.0, cc);
 }
 
-pub quoted_open : (a bytes left : List ℕ) → Run (is_of Quotable) a bytes left → ((c : List ℕ) → left ≡ 39 ∷ c → ⊥) → (x c : List ℕ) → QuotedAt a x c → ⊥
-quoted_open a bytes left r n x c p = n c (sym (run_once (is_of Quotable) a bytes left x (39 ∷ c) r p.run).1)
+pub quoted_open : (a bytes left : List ℕ) → Run (is_inside inner.Quotes) a bytes left → ((c : List ℕ) → left ≡ 39 ∷ c → ⊥) → (x c : List ℕ) → QuotedAt a x c → ⊥
+quoted_open a bytes left r n x c p = n c (sym (run_once (is_inside inner.Quotes) a bytes left x (39 ∷ c) r p.run).1)
 
-pub quoted_empty : (a bytes left : List ℕ) → Run (is_of Quotable) a bytes left → length bytes ≡ 0 → (x c : List ℕ) → QuotedAt a x c → ⊥
-quoted_empty a bytes left r h x c p = let o = run_once (is_of Quotable) a bytes left x (39 ∷ c) r p.run in omega (arith, h, p.some, ap length o.0)
+pub quoted_empty : (a bytes left : List ℕ) → Run (is_inside inner.Quotes) a bytes left → length bytes ≡ 0 → (x c : List ℕ) → QuotedAt a x c → ⊥
+quoted_empty a bytes left r h x c p = let o = run_once (is_inside inner.Quotes) a bytes left x (39 ∷ c) r p.run in omega (arith, h, p.some, ap length o.0)
 
 -- something is read
 rest_shorter : (a x c : List ℕ) → a ≡ x ++ c → length a ≡ length x + length c

@@ -1,14 +1,14 @@
 -- A whole text.
 use Rattle.std.proofs.Common.{◌≡◌, ◌∙◌, sym, ap, subst, refl, arith, ℕ, ◌+◌, ◌-◌, ◌<◌, ◌≤◌, List, [], ◌∷◌, ◌++◌, length, map, Option, Some, None, append_assoc}
 use Rattle.std.specs.Prelude.{option_to_list}
-use Rattle.thrax_lexer.specs.Answers.{Takes}
-use Rattle.thrax_lexer.specs.Steps.{Longest}
+use Rattle.text_forms.specs.Answers.{Takes}
+use Rattle.text_forms.specs.Steps.{Longest}
 use Rattle.thrax_lexer.specs.Lexemes.{Lex, Piece}
 use Rattle.thrax_lexer.specs.Reading.{LexFails, Spot, Spotted, lexes, nested, nest, too_deep, StoppedBy, Stopped, LexText}
 use Rattle.thrax_lexer.specs.declared.reading.Nesting.{Nesting}
 use Rattle.thrax_lexer.specs.declared.reading.LexFault.{LexFault}
 use Rattle.thrax_lexer.specs.declared.reading.LexFault.TheVariants.{BadLexeme, BadWeight, Memory}
-use Rattle.thrax_lexer.proofs.Chains.{Stands, stands_begin, stands_step, stands_end, nothing_after}
+use Rattle.text_forms.proofs.Chains.{Stands, stands_begin, stands_step, stands_end, nothing_after}
 
 abbrev pub spot : ℕ → Option Lex → Spot
 spot at item = record { at = at; item = item }

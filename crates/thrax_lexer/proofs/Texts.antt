@@ -1,14 +1,16 @@
 -- Strings.
 use Rattle.std.proofs.Common.{◌≡◌, ◌∙◌, sym, ap, subst, refl, arith, ℕ, ◌+◌, ◌-◌, ◌<◌, ◌≤◌, Bool, true, false, nat_eq, List, [], ◌∷◌, ◌++◌, length, take, get_or, append_assoc, Option, Some, None, inl, inr}
 use Rattle.std.proofs.lemmas.List.{append_cancel_right, length-append}
-use Rattle.thrax_lexer.specs.Answers.{Takes}
-use Rattle.thrax_lexer.specs.Bytes.{Run, Stops, is_of}
-use Rattle.thrax_lexer.specs.declared.bytes.ByteKind.TheVariants.{Digit, HexDigit, InBracket}
-use Rattle.thrax_lexer.specs.Numbers.{value}
-use Rattle.thrax_lexer.specs.Steps.{Many, none, more, Longest}
+use Rattle.text_forms.specs.Answers.{Takes}
+use Rattle.text_forms.specs.Bytes.{Run, Stops, is_of}
+use Rattle.thrax_lexer.specs.Bytes.{is_inside}
+use Rattle.text_forms.specs.declared.bytes.ByteKind.TheVariants.{Digit, HexDigit}
+use Rattle.thrax_lexer.specs.declared.bytes.Inside.TheVariants as inner
+use Rattle.text_forms.specs.Numbers.{value}
+use Rattle.text_forms.specs.Steps.{Many, none, more, Longest}
 use Rattle.thrax_lexer.specs.Strings.{is_plain, escaped, Numeral, NamedByte, by_decimal, by_hexadecimal, Named, Label, plain, escape, bracket, Labels, Closed}
-use Rattle.thrax_lexer.proofs.Chains.{ended_by, nothing_after}
-use Rattle.thrax_lexer.proofs.Runs.{run_once}
+use Rattle.text_forms.proofs.Chains.{ended_by, nothing_after}
+use Rattle.text_forms.proofs.Runs.{run_once}
 
 -- a name has one label
 decimal_name : {x : List ℕ} {n m : ℕ} → Numeral Digit 10 3 x n → NamedByte x m → m ≡ n
@@ -63,11 +65,11 @@ label_escape {b} e h (plain g) = absurd (plain_not b 92 e refl g)
 label_escape {n} e h (escape {n = m} f g) = (let k : Some m ≡ Some n = sym g ∙ h in cc, refl)
 label_escape e h (bracket f r q) = absurd (omega (arith, e, f))
 
-label_bracket : {b n m : ℕ} {a x c d : List ℕ} → b ≡ 91 → Run (is_of InBracket) a x (93 ∷ c) → Named x n → Label (b ∷ a) m d → (m ≡ n) × (d ≡ c)
+label_bracket : {b n m : ℕ} {a x c d : List ℕ} → b ≡ 91 → Run (is_inside inner.Brackets) a x (93 ∷ c) → Named x n → Label (b ∷ a) m d → (m ≡ n) × (d ≡ c)
 label_bracket {b} e r h (plain g) = absurd (plain_not b 91 e refl g)
 label_bracket e r h (escape f g) = absurd (omega (arith, e, f))
 label_bracket {n} {m} {a} {x} {c} e r h (bracket {x = y} {c = d} f s k) =
-    let g = run_once (is_of InBracket) a x (93 ∷ c) y (93 ∷ d) r s in
+    let g = run_once (is_inside inner.Brackets) a x (93 ∷ c) y (93 ∷ d) r s in
     (named_once x n m h (subst (λ v. Named v m) g.0 k), let i : 93 ∷ d ≡ 93 ∷ c = g.1 in cc)
 
 pub label_once : {a b c : List ℕ} {n m : ℕ} → Label a n b → Label a m c → (m ≡ n) × (c ≡ b)
@@ -156,7 +158,7 @@ found_plain text rest b n e f h = subst (λ v. Label v n rest) (sym e) (subst (�
 pub found_escape : (text rest after : List ℕ) (b d n : ℕ) → text ≡ b ∷ rest → b ≡ 92 → rest ≡ d ∷ after → escaped d ≡ Some n → Label text n after
 found_escape text rest after b d n e f g h = subst (λ v. Label v n after) (sym (e ∙ ap (λ v. b ∷ v) g)) (escape f h)
 
-pub found_bracket : (text rest after name : List ℕ) (b n : ℕ) → text ≡ b ∷ rest → b ≡ 91 → Run (is_of InBracket) rest name (93 ∷ after) → Named name n → Label text n after
+pub found_bracket : (text rest after name : List ℕ) (b n : ℕ) → text ≡ b ∷ rest → b ≡ 91 → Run (is_inside inner.Brackets) rest name (93 ∷ after) → Named name n → Label text n after
 found_bracket text rest after name b n e f r h = subst (λ v. Label v n after) (sym e) (bracket f r h)
 
 none_escape : {b n : ℕ} {a c : List ℕ} → b ≡ 92 → ((d m : ℕ) (x : List ℕ) → a ≡ d ∷ x → escaped d ≡ Some m → ⊥) → Label (b ∷ a) n c → ⊥
@@ -167,14 +169,14 @@ none_escape e k (bracket f r h) = omega (arith, e, f)
 pub missed_escape : (text rest : List ℕ) (b : ℕ) → text ≡ b ∷ rest → b ≡ 92 → ((d m : ℕ) (x : List ℕ) → rest ≡ d ∷ x → escaped d ≡ Some m → ⊥) → (n : ℕ) (c : List ℕ) → Label text n c → ⊥
 missed_escape text rest b e f k n c p = none_escape f k (subst (λ v. Label v n c) e p)
 
-none_bracket : {b n : ℕ} {a c : List ℕ} → b ≡ 91 → ((name : List ℕ) (m : ℕ) (d : List ℕ) → Run (is_of InBracket) a name (93 ∷ d) → Named name m → ⊥) → Label (b ∷ a) n c → ⊥
+none_bracket : {b n : ℕ} {a c : List ℕ} → b ≡ 91 → ((name : List ℕ) (m : ℕ) (d : List ℕ) → Run (is_inside inner.Brackets) a name (93 ∷ d) → Named name m → ⊥) → Label (b ∷ a) n c → ⊥
 none_bracket {b} e k (plain h) = plain_not b 91 e refl h
 none_bracket e k (escape f h) = omega (arith, e, f)
 none_bracket e k (bracket {n} {x} {c} f r h) = k x n c r h
 
-pub missed_bracket : (text rest : List ℕ) (b : ℕ) → text ≡ b ∷ rest → b ≡ 91 → ((name : List ℕ) (m : ℕ) (d : List ℕ) → Run (is_of InBracket) rest name (93 ∷ d) → Named name m → ⊥) → (n : ℕ) (c : List ℕ) → Label text n c → ⊥
+pub missed_bracket : (text rest : List ℕ) (b : ℕ) → text ≡ b ∷ rest → b ≡ 91 → ((name : List ℕ) (m : ℕ) (d : List ℕ) → Run (is_inside inner.Brackets) rest name (93 ∷ d) → Named name m → ⊥) → (n : ℕ) (c : List ℕ) → Label text n c → ⊥
 missed_bracket text rest b e f k n c p = none_bracket f k (subst (λ v. Label v n c) e p)
 
 -- a name in brackets, from the run up to its end
-pub bracket_run : (text name left x c : List ℕ) → Run (is_of InBracket) text name left → Run (is_of InBracket) text x (93 ∷ c) → (x ≡ name) × (93 ∷ c ≡ left)
-bracket_run text name left x c r s = run_once (is_of InBracket) text name left x (93 ∷ c) r s
+pub bracket_run : (text name left x c : List ℕ) → Run (is_inside inner.Brackets) text name left → Run (is_inside inner.Brackets) text x (93 ∷ c) → (x ≡ name) × (93 ∷ c ≡ left)
+bracket_run text name left x c r s = run_once (is_inside inner.Brackets) text name left x (93 ∷ c) r s

@@ -1,33 +1,19 @@
--- Bytes of a grammar file, and runs of them.
-use Rattle.std.specs.Prelude.{Bool, true, false, ℕ, ◌≡◌, ◌&&◌, ◌||◌, not, nat_eq, nat_le, List, [], ◌∷◌, ◌++◌, Option, Some, None, if◌then◌else◌}
-use Rattle.std.specs.List.{AllByRecursion}
-use Rattle.thrax_lexer.specs.declared.bytes.Symbol.{Symbol}
-use Rattle.thrax_lexer.specs.declared.bytes.Symbol.TheVariants.{Equals, Semicolon, Comma, Bar, Star, Plus, Question, OpenBrace, CloseBrace, Minus, Colon, At, OpenParen, CloseParen, OpenBracket, CloseBracket, Dot}
+-- Bytes of a grammar file.
+use Rattle.std.specs.Prelude.{Bool, ℕ, ◌&&◌, ◌||◌, not, nat_eq, Option, Some, None, if◌then◌else◌}
+use Rattle.text_forms.specs.Bytes.{from_to, is_blank, is_digit, is_letter}
+use Rattle.thrax_lexer.specs.declared.bytes.Inside.{Inside}
+use Rattle.thrax_lexer.specs.declared.bytes.Inside.TheVariants.{Quotes, Comment as In_comment, Weight as In_weight, Brackets}
 use Rattle.thrax_lexer.specs.declared.bytes.Start.{Start}
 use Rattle.thrax_lexer.specs.declared.bytes.Start.TheVariants.{Blank, Comment, Word, Number, Weight, Text, Quoted, Symbol as Single, Nothing}
-use Rattle.thrax_lexer.specs.declared.bytes.ByteKind.{ByteKind}
-use Rattle.thrax_lexer.specs.declared.bytes.ByteKind.TheVariants.{Wordy, Digit, HexDigit, Quotable, InComment, InWeight, InBracket}
+use Rattle.thrax_lexer.specs.declared.bytes.Symbol.{Symbol}
+use Rattle.thrax_lexer.specs.declared.bytes.Symbol.TheVariants.{Equals, Semicolon, Comma, Bar, Star, Plus, Question, OpenBrace, CloseBrace, Minus, Colon, At, OpenParen, CloseParen, OpenBracket, CloseBracket, Dot}
 
-abbrev pub from_to : ℕ → ℕ → ℕ → Bool
-from_to low high b = nat_le low b && nat_le b high
-
-abbrev pub is_letter : ℕ → Bool
-is_letter b = from_to 65 90 b || from_to 97 122 b
-
-abbrev pub is_digit : ℕ → Bool
-is_digit b = from_to 48 57 b
-
-abbrev pub is_blank : ℕ → Bool
-is_blank b = nat_eq b 32 || nat_eq b 9 || nat_eq b 13 || nat_eq b 10
-
-abbrev pub is_of : ByteKind → ℕ → Bool
-is_of Wordy b = is_letter b || is_digit b || nat_eq b 95
-is_of Digit b = is_digit b
-is_of HexDigit b = is_digit b || from_to 65 70 b || from_to 97 102 b
-is_of Quotable b = from_to 32 126 b && not (nat_eq b 39)
-is_of InComment b = not (nat_eq b 10)
-is_of InWeight b = not (nat_eq b 62) && not (nat_eq b 10)
-is_of InBracket b = not (nat_eq b 93)
+-- what may stand inside a comment or a lexeme
+abbrev pub is_inside : Inside → ℕ → Bool
+is_inside Quotes b = from_to 32 126 b && not (nat_eq b 39)
+is_inside In_comment b = not (nat_eq b 10)
+is_inside In_weight b = not (nat_eq b 62) && not (nat_eq b 10)
+is_inside Brackets b = not (nat_eq b 93)
 
 abbrev pub symbol_at : ℕ → Option Symbol
 symbol_at b =
@@ -64,14 +50,3 @@ starts b =
     if nat_eq b 34 then Text else
     if nat_eq b 39 then Quoted else
     symbol_start (symbol_at b)
-
--- it is empty, or its first byte is none of these
-abbrev pub Stops : (ℕ → Bool) → List ℕ → Type 0
-Stops test [] = Unit {0}
-Stops test (b ∷ bs) = test b ≡ false
-
--- x is the longest run of such bytes at the front of a, and c is what follows
-pub record Run (test : ℕ → Bool) (a x c : List ℕ) : Type 0 where
-  pub split : a ≡ x ++ c
-  pub all : AllByRecursion (λ b. test b ≡ true) x
-  pub ends : Stops test c

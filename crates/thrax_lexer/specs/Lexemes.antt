@@ -1,13 +1,15 @@
 -- Lexemes, and what stands at the front of a text.
 use Rattle.std.specs.Prelude.{ℕ, ◌≡◌, ◌<◌, ◌≤◌, ◌^◌, List, [], ◌∷◌, length, Option, Some, None, if◌then◌else◌, codes}
 use Rattle.std.specs.Str.{bytes_eq}
-use Rattle.thrax_lexer.specs.Bytes.{Run, is_of, starts}
-use Rattle.thrax_lexer.specs.Numbers.{value, Decimal}
+use Rattle.text_forms.specs.Bytes.{Run, is_of}
+use Rattle.thrax_lexer.specs.Bytes.{starts, is_inside}
+use Rattle.text_forms.specs.Numbers.{value, Decimal}
 use Rattle.thrax_lexer.specs.Strings.{Closed}
 use Rattle.thrax_lexer.specs.declared.bytes.Symbol.{Symbol}
 use Rattle.thrax_lexer.specs.declared.bytes.Start.{Start}
 use Rattle.thrax_lexer.specs.declared.bytes.Start.TheVariants.{Blank, Comment, Word, Number, Weight, Text, Quoted, Symbol as Single, Nothing}
-use Rattle.thrax_lexer.specs.declared.bytes.ByteKind.TheVariants.{Wordy, Digit, Quotable, InComment, InWeight}
+use Rattle.text_forms.specs.declared.bytes.ByteKind.TheVariants.{Wordy, Digit}
+use Rattle.thrax_lexer.specs.declared.bytes.Inside.TheVariants as inner
 use Rattle.thrax_lexer.specs.declared.lexemes.Keyword.{Keyword}
 use Rattle.thrax_lexer.specs.declared.lexemes.Keyword.TheVariants.{Export, Import, As, Func, Return}
 use Rattle.thrax_lexer.specs.declared.lexemes.Lexeme.{Lexeme}
@@ -50,19 +52,19 @@ pub record NumberAt (a : List ℕ) (n : ℕ) (c : List ℕ) : Type 0 where
 -- what follows a '<': a decimal in range and a '>'
 pub record WeightAt (a : List ℕ) (w : ℕ) (c : List ℕ) : Type 0 where
   pub inside : List ℕ
-  pub run : Run (is_of InWeight) a inside (62 ∷ c)
+  pub run : Run (is_inside inner.Weight) a inside (62 ∷ c)
   pub says : Decimal inside w
   pub small : w < 2 ^ 32
 
 -- what follows a single quote: some bytes and another
 pub record QuotedAt (a bytes c : List ℕ) : Type 0 where
-  pub run : Run (is_of Quotable) a bytes (39 ∷ c)
+  pub run : Run (is_inside inner.Quotes) a bytes (39 ∷ c)
   pub some : 0 < length bytes
 
 -- what stands before c in a text that has the byte b and then a, by what b begins; None is a blank or a comment
 abbrev pub Front : Start → ℕ → List ℕ → Option Lex → List ℕ → Type 0
 Front Blank b a i c = (i ≡ None) × (c ≡ a)
-Front Comment b a i c = (x : List ℕ) × (i ≡ None) × Run (is_of InComment) a x c
+Front Comment b a i c = (x : List ℕ) × (i ≡ None) × Run (is_inside inner.Comment) a x c
 Front Word b a i c = (x : List ℕ) × (i ≡ Some (word_lex (b ∷ x))) × Run (is_of Wordy) a x c
 Front Number b a i c = (n : ℕ) × (i ≡ Some (number n)) × NumberAt (b ∷ a) n c
 Front Weight b a i c = (w : ℕ) × (i ≡ Some (weight w)) × WeightAt a w c

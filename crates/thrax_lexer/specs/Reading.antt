@@ -1,6 +1,6 @@
 -- What a whole text is, and where it stops.
 use Rattle.std.specs.Prelude.{ℕ, ◌≡◌, ◌+◌, ◌-◌, List, [], ◌∷◌, ◌++◌, map, length, Option, Some, None, option_to_list, if◌then◌else◌, nat_lt, Result, Ok, Err}
-use Rattle.thrax_lexer.specs.Steps.{Longest}
+use Rattle.text_forms.specs.Steps.{Longest}
 use Rattle.thrax_lexer.specs.Lexemes.{Lex, symbol, Piece, lex_of}
 use Rattle.thrax_lexer.specs.declared.bytes.Symbol.{Symbol}
 use Rattle.thrax_lexer.specs.declared.bytes.Symbol.TheVariants.{OpenBrace, CloseBrace, OpenParen, CloseParen, OpenBracket, CloseBracket}

@@ -1,10 +1,12 @@
 -- The labels of a string.
 use Rattle.std.specs.Prelude.{Bool, ℕ, ◌≡◌, ◌<◌, ◌≤◌, ◌&&◌, ◌||◌, not, nat_eq, true, List, [], ◌∷◌, ◌++◌, length, Option, Some, None, if◌then◌else◌, codes, ◌⊎◌}
-use Rattle.thrax_lexer.specs.Bytes.{is_digit, is_letter, is_of, from_to, Run}
-use Rattle.thrax_lexer.specs.Numbers.{value}
-use Rattle.thrax_lexer.specs.Steps.{Many}
-use Rattle.thrax_lexer.specs.declared.bytes.ByteKind.{ByteKind}
-use Rattle.thrax_lexer.specs.declared.bytes.ByteKind.TheVariants.{Digit, HexDigit, InBracket}
+use Rattle.text_forms.specs.Bytes.{is_digit, is_letter, is_of, from_to, Run}
+use Rattle.thrax_lexer.specs.Bytes.{is_inside}
+use Rattle.text_forms.specs.Numbers.{value}
+use Rattle.text_forms.specs.Steps.{Many}
+use Rattle.text_forms.specs.declared.bytes.ByteKind.{ByteKind}
+use Rattle.text_forms.specs.declared.bytes.ByteKind.TheVariants.{Digit, HexDigit}
+use Rattle.thrax_lexer.specs.declared.bytes.Inside.TheVariants as inner
 
 -- any byte but 0, LF, '"', '\', '[' and ']'
 abbrev pub is_plain : ℕ → Bool
@@ -40,7 +42,7 @@ Named x n = ((x ≡ codes "BOS") × (n ≡ 256)) ⊎ ((x ≡ codes "EOS") × (n 
 pub data Label : List ℕ → ℕ → List ℕ → Type 0 where
   plain : {b : ℕ} {a : List ℕ} → is_plain b ≡ true → Label (b ∷ a) b a
   escape : {b d n : ℕ} {a : List ℕ} → b ≡ 92 → escaped d ≡ Some n → Label (b ∷ d ∷ a) n a
-  bracket : {b n : ℕ} {a x c : List ℕ} → b ≡ 91 → Run (is_of InBracket) a x (93 ∷ c) → Named x n → Label (b ∷ a) n c
+  bracket : {b n : ℕ} {a x c : List ℕ} → b ≡ 91 → Run (is_inside inner.Brackets) a x (93 ∷ c) → Named x n → Label (b ∷ a) n c
 
 -- the whole text is pieces, with these labels
 abbrev pub Labels : List ℕ → List ℕ → Type 0

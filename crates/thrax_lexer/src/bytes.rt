@@ -1,5 +1,7 @@
-ghost use Rattle.std.specs.Prelude.{◌≡◌, ◌<◌, ◌∷◌, [], List, ℕ, length, IfSome, IfNone};
-ghost use Rattle.thrax_lexer.specs.Bytes.{is_of, starts, symbol_at, Run};
+ghost use Rattle.std.specs.Prelude.{◌≡◌};
+ghost use Rattle.thrax_lexer.specs.Bytes.{is_inside, starts, symbol_at};
+
+use text_forms::ByteClass;
 
 /// A symbol of one byte.
 #[derive(Clone, Copy, Debug, PartialEq, Eq)]
@@ -37,35 +39,28 @@ pub enum Start {
     Nothing,
 }
 
-/// The kinds of bytes of which whole runs are taken.
+/// The classes of bytes that may stand inside a comment or a lexeme.
 #[derive(Clone, Copy, Debug, PartialEq, Eq)]
-pub enum ByteKind {
-    /// Letters, digits and `_`.
-    Wordy,
-    Digit,
-    HexDigit,
+pub enum Inside {
     /// What may stand between single quotes.
-    Quotable,
-    /// What a comment goes over.
-    InComment,
+    Quotes,
+    Comment,
     /// What stands before the `>` of a weight.
-    InWeight,
+    Weight,
     /// What stands before the `]` of a label in brackets.
-    InBracket,
+    Brackets,
 }
 
-/// Whether a byte is of the kind.
-pub fn is_of(kind: ByteKind, b: u8) -> bool
-    ensures { result ≡ is_of kind b }
-{
-    match kind {
-        ByteKind::Wordy => b == b'_' || b.is_ascii_alphanumeric(),
-        ByteKind::Digit => b.is_ascii_digit(),
-        ByteKind::HexDigit => b.is_ascii_hexdigit(),
-        ByteKind::Quotable => b >= 32 && b <= 126 && b != b'\'',
-        ByteKind::InComment => b != b'\n',
-        ByteKind::InWeight => b != b'>' && b != b'\n',
-        ByteKind::InBracket => b != b']',
+impl ByteClass for Inside {
+    ghost member = { is_inside };
+
+    fn has(self, b: u8) -> bool {
+        match self {
+            Inside::Quotes => b >= 32 && b <= 126 && b != b'\'',
+            Inside::Comment => b != b'\n',
+            Inside::Weight => b != b'>' && b != b'\n',
+            Inside::Brackets => b != b']',
+        }
     }
 }
 
@@ -110,40 +105,5 @@ pub fn begun_by(b: u8) -> Start
             Some(symbol) => Start::Symbol(symbol),
             None => Start::Nothing,
         },
-    }
-}
-
-/// The longest run of bytes of a kind at the front of a text, and the rest.
-pub fn span(text: &[u8], kind: ByteKind) -> (&[u8], &[u8])
-    ensures { Run (is_of kind) text.now result.0.now result.1.now }
-{
-    for (i, b) in text.iter().enumerate() {
-        if !is_of(kind, *b) {
-            return (&text[..i], &text[i..]);
-        }
-    }
-    (text, &[])
-}
-
-/// The first byte, and the others.
-pub fn front_byte(text: &[u8]) -> Option<(u8, &[u8])>
-    ensures shorter { IfSome result (λ x. length x.1.now < length text.now) }
-    ensures found { IfSome result (λ x. text.now ≡ x.0 ∷ x.1.now) }
-    ensures none { IfNone result (text.now ≡ []) }
-{
-    match text {
-        [first, rest @ ..] => Some((*first, rest)),
-        [] => None,
-    }
-}
-
-/// What follows a byte that comes first.
-pub fn after_byte(text: &[u8], wanted: u8) -> Option<&[u8]>
-    ensures found { IfSome result (λ rest. text.now ≡ wanted ∷ rest.now) }
-    ensures none { IfNone result ((rest : List ℕ) → text.now ≡ wanted ∷ rest → ⊥) }
-{
-    match text {
-        [first, rest @ ..] if *first == wanted => Some(rest),
-        _ => None,
     }
 }

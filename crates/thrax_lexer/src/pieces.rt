@@ -1,10 +1,10 @@
 ghost use Rattle.thrax_lexer.specs.Lexemes.{NumberAt, WeightAt, QuotedAt, Piece, lexed};
-ghost use Rattle.thrax_lexer.specs.Answers.{Next};
+ghost use Rattle.text_forms.specs.Answers.{Next};
 
-use crate::bytes::{ByteKind, Start, after_byte, begun_by, front_byte, span};
+use crate::bytes::{Inside, Start, begun_by};
 use crate::lexemes::{Lexeme, word_lexeme};
-use crate::numbers::{decimal, value_below};
 use crate::strings::closed;
+use text_forms::{ByteKind, after_byte, decimal, front_byte, span, value_below};
 
 /// The blank, comment or lexeme at the front of a text, and the rest. A blank or a comment is `None`.
 pub fn piece(text: &[u8]) -> Option<(Option<Lexeme<'_>>, &[u8])>
@@ -14,7 +14,7 @@ pub fn piece(text: &[u8]) -> Option<(Option<Lexeme<'_>>, &[u8])>
     match begun_by(first) {
         Start::Blank => Some((None, rest)),
         Start::Comment => {
-            let (_, after) = span(rest, ByteKind::InComment);
+            let (_, after) = span(rest, Inside::Comment);
             Some((None, after))
         }
         Start::Word => {
@@ -56,7 +56,7 @@ fn number(text: &[u8]) -> Option<(u32, &[u8])>
 fn weight(text: &[u8]) -> Option<(u32, &[u8])>
     ensures { Next (λ x. x.0) (λ x. x.1.now) (WeightAt text.now) result }
 {
-    let (inside, left) = span(text, ByteKind::InWeight);
+    let (inside, left) = span(text, Inside::Weight);
     let rest = after_byte(left, b'>')?;
     Some((decimal(inside)?, rest))
 }
@@ -64,7 +64,7 @@ fn weight(text: &[u8]) -> Option<(u32, &[u8])>
 fn quoted(text: &[u8]) -> Option<(&[u8], &[u8])>
     ensures { Next (λ x. x.0.now) (λ x. x.1.now) (QuotedAt text.now) result }
 {
-    let (bytes, left) = span(text, ByteKind::Quotable);
+    let (bytes, left) = span(text, Inside::Quotes);
     let rest = after_byte(left, b'\'')?;
     if bytes.is_empty() {
         None

@@ -3,10 +3,11 @@ ghost use Rattle.thrax_lexer.specs.Lexemes.{lex_of, lexed};
 ghost use Rattle.thrax_lexer.specs.Reading.{LexAnswers, StoppedBy, behind, turned, nested};
 ghost use Rattle.thrax_lexer.specs.declared.reading.LexFault.TheVariants.{Memory};
 
-use crate::bytes::{Symbol, front_byte};
+use crate::bytes::Symbol;
 use crate::lexemes::Lexeme;
 use crate::pieces::piece;
 use std::alloc::{AllocError, Global};
+use text_forms::front_byte;
 
 /// Where a text has no further lexeme.
 #[derive(Clone, Copy, Debug, PartialEq, Eq)]

@@ -1,12 +1,13 @@
 ghost use Rattle.std.specs.Prelude.{◌≡◌, ◌<◌, ◌≤◌, ◌^◌, ◌∷◌, List, ℕ, length, IfOk, IfSome, IfNone, Some};
-ghost use Rattle.thrax_lexer.specs.Bytes.{Run, is_of};
-ghost use Rattle.thrax_lexer.specs.declared.bytes.ByteKind.TheVariants.{InBracket};
+ghost use Rattle.text_forms.specs.Bytes.{Run, is_of};
+ghost use Rattle.thrax_lexer.specs.Bytes.{is_inside};
+ghost use Rattle.thrax_lexer.specs.declared.bytes.Inside.TheVariants as inner;
 ghost use Rattle.thrax_lexer.specs.Strings.{is_plain, escaped, Numeral, NamedByte, Named, Label, Labels, Closed};
-ghost use Rattle.thrax_lexer.specs.Answers.{Next};
+ghost use Rattle.text_forms.specs.Answers.{Next};
 
-use crate::bytes::{ByteKind, after_byte, front_byte, span};
-use crate::numbers::value_below;
+use crate::bytes::Inside;
 use std::alloc::{AllocError, Global};
+use text_forms::{ByteKind, after_byte, front_byte, span, value_below};
 
 fn is_plain(b: u8) -> bool
     ensures { result ≡ is_plain b }
@@ -106,10 +107,10 @@ fn escape(text: &[u8]) -> Option<(u16, &[u8])>
 /// What stands behind an opening bracket.
 fn bracketed(text: &[u8]) -> Option<(u16, &[u8])>
     ensures shorter { IfSome result (λ x. length x.1.now < length text.now) }
-    ensures found { IfSome result (λ x. (name : List ℕ) × Run (is_of InBracket) text.now name (93 ∷ x.1.now) × Named name x.0) }
-    ensures none { IfNone result ((name : List ℕ) (n : ℕ) (c : List ℕ) → Run (is_of InBracket) text.now name (93 ∷ c) → Named name n → ⊥) }
+    ensures found { IfSome result (λ x. (name : List ℕ) × Run (is_inside inner.Brackets) text.now name (93 ∷ x.1.now) × Named name x.0) }
+    ensures none { IfNone result ((name : List ℕ) (n : ℕ) (c : List ℕ) → Run (is_inside inner.Brackets) text.now name (93 ∷ c) → Named name n → ⊥) }
 {
-    let (name, left) = span(text, ByteKind::InBracket);
+    let (name, left) = span(text, Inside::Brackets);
     let rest = after_byte(left, b']')?;
     Some((named(name)?, rest))
 }

@@ -4,5 +4,4 @@ pub mod Placed
 pub mod Fronts
 pub mod Soles
 pub mod Repeats
-pub mod Texts
 pub mod Outcomes

@@ -12,7 +12,7 @@ use Rattle.thrax_meaning.specs.Tables.{scopes_of}
 use Rattle.thrax_link.specs.Linking.{Finished, finished_names}
 use Rattle.thrax_link.specs.Progress.{finished_onto, finished_of, scope_at}
 use Rattle.thrax_link.specs.declared.done.Done.{Done}
-use Rattle.thrax_link.proofs.Scopes.{scopes_length}
+use Rattle.thrax_meaning.proofs.Scopes.{scopes_length}
 
 first : (later : Option ℕ) (b : Bool) (s : Scope) (ss : List Scope) (before : Option Scope) → option_or (option_map (λ k. get_or ss k empty) later) (if b then Some s else before)
     ≡ option_or (option_map (λ k. get_or (s ∷ ss) k empty) (option_or (option_map suc later) (if b then Some 0 else None))) before

@@ -3,7 +3,7 @@ use Rattle.std.proofs.Common.{◌≡◌, ◌∙◌, refl, sym, ap, subst, arith,
 use Rattle.std.specs.Prelude.{Result, OnOk, IfErr}
 use Rattle.std.specs.declared.option.Option.{Option}
 use Rattle.norm_base.specs.Files.{Files}
-use Rattle.thrax_meaning.specs.Meaning.{Scope, empty, bound, file}
+use Rattle.thrax_meaning.specs.Meaning.{Scope, empty, bound, file, named_file}
 use Rattle.thrax_meaning.specs.Tables.{meaning_of, meaning_of_function, scopes_of, scope_over}
 use Rattle.thrax_meaning.specs.declared.why.Why.{Why}
 use Rattle.thrax_meaning.specs.declared.why.Why.TheVariants.{Read, NotFound, Twice, ImportLoop, ImportDepth}
@@ -15,12 +15,13 @@ use Rattle.thrax_syntax.specs.Trees.{StatementTerm}
 use Rattle.thrax_syntax.specs.Files.{IsRead, IsAnswer, Reading}
 use Rattle.thrax_syntax.specs.declared.fault.ReadFault.{ReadFault}
 use Rattle.thrax_syntax.specs.declared.fault.ReadFault.TheVariants as read
-use Rattle.thrax_link.specs.Linking.{Finished, Ending, stopped, linked, Is, Where, From, Then, Passes, Importing, Adds, Takes as TakesOne, TakesAll, LinksRead, LinksText, LinksFetched, LinksUnder, finished_names, is_among, is_used, name_of, named_file, with_function}
-use Rattle.thrax_link.specs.Progress.{Sole, Refuses, IsRefusal, IsDeviceFault, IsUnread, Stops, Defines, Takes, Imports, IsWithin, KindWithin, Grows, finished_of, finished_onto, scope_at}
+use Rattle.thrax_link.specs.Linking.{Finished, Ending, stopped, linked, Is, Where, From, Then, Passes, Importing, Adds, Takes as TakesOne, TakesAll, LinksRead, LinksText, LinksFetched, LinksUnder, finished_names, is_among, is_used, name_of, with_function}
+use Rattle.thrax_link.specs.Progress.{Sole, Refuses, IsRefusal, IsUnread, Stops, Defines, Takes, Imports, IsWithin, KindWithin, Grows, finished_of, finished_onto, scope_at}
 use Rattle.thrax_link.specs.declared.done.Done.{Done}
 use Rattle.thrax_link.specs.declared.fault.LinkFault.{LinkFault}
 use Rattle.thrax_link.specs.declared.fault.LinkFault.TheVariants.{Refused, ShelfFault, Memory}
-use Rattle.thrax_link.proofs.Scopes.{scope_push, scope_kept, within_push, within_grown, scopes_push, scopes_length, get_or-append-last}
+use Rattle.thrax_meaning.proofs.Scopes.{scope_push, scopes_push, scopes_length, get_or-append-last}
+use Rattle.thrax_link.proofs.Scopes.{scope_kept, within_push, within_grown}
 
 pub sole_is : (e end : Ending) → e ≡ end → Sole (Is e) end
 sole_is e end h = record { found = sym h; only = λ o g. g ∙ h }
@@ -51,11 +52,6 @@ pub stops_by : (fault : LinkFault) (P Q : Ending → Type 0) → ((end : Ending)
 stops_by (Refused f n why) P Q go s = go (stopped f n why) s
 stops_by ShelfFault P Q go s = tt
 stops_by Memory P Q go s = tt
-
-pub stops_device : (fault : LinkFault) (P : Ending → Type 0) → IsDeviceFault fault → Stops fault P
-stops_device (Refused f n why) P h = absurd h
-stops_device ShelfFault P h = tt
-stops_device Memory P h = tt
 
 pub refuses_is : (fault : LinkFault) (end : Ending) → IsRefusal fault end → Refuses fault end
 refuses_is (Refused f n why) end h = h

@@ -1,13 +1,13 @@
 -- What comes of linking a file of a shelf with all that it imports: its exported names with their expressions, or the first refusal.
 use Rattle.std.specs.Prelude.{◌≡◌, ℕ, zero, suc, ◌+◌, ◌||◌, List, [], ◌∷◌, ◌++◌, map, length, Bool, true, false, if◌then◌else◌, Option, None, Some, is_some, Result, Ok, Err}
 use Rattle.std.specs.List.{list_any}
-use Rattle.std.specs.Str.{bytes_eq, is_utf8}
-use Rattle.norm_base.specs.Files.{Files, file_of}
+use Rattle.std.specs.Str.{bytes_eq}
+use Rattle.norm_base.specs.Files.{Files}
 use Rattle.weighted_relations.specs.Expressions.{Expression}
 use Rattle.thrax_syntax.specs.Trees.{StatementTerm, import_of, define, func}
 use Rattle.thrax_syntax.specs.Files.{Reading}
 use Rattle.thrax_syntax.specs.declared.fault.ReadFault.{ReadFault}
-use Rattle.thrax_meaning.specs.Meaning.{Taken, refused, taken, Meaning, value, function, file, Scope, empty, bound, found, built_in, meant, function_of}
+use Rattle.thrax_meaning.specs.Meaning.{Taken, refused, taken, Meaning, value, function, file, Scope, empty, bound, found, built_in, meant, function_of, named_file}
 use Rattle.thrax_meaning.specs.declared.why.Why.{Why}
 use Rattle.thrax_meaning.specs.declared.why.Why.TheVariants.{Read, NotFound, Twice, ImportLoop, ImportDepth}
 
@@ -99,10 +99,6 @@ pub record LinksText (files : Files) (Import : Importing) (done : List Finished)
   pub answer : Result (List StatementTerm) ReadFault
   pub reading : Reading text answer
   pub ends : LinksRead files Import done name answer end
-
--- the text of the file of a name; a name that isn't UTF-8, which no grammar file has, names none
-abbrev pub named_file : Files → List ℕ → Option (List ℕ)
-named_file files name = if is_utf8 name then file_of files name else None
 
 abbrev pub LinksFetched : Files → Importing → List ℕ → ℕ → List Finished → List ℕ → Option (List ℕ) → Ending → Type 0
 LinksFetched files Import f n done name None = Is (stopped f n (NotFound name))

@@ -39,7 +39,7 @@ scope_at files tables k = get_or (scopes_of files tables) k empty
 -- each file has its name and its table, and is found by its name
 pub record IsPlaced (done : Done) : Type 0 where
   pub aligned : length done.names.items ≡ length done.tables.items
-  pub placed : IsIndex done.places done.names.items
+  pub placed : IsIndex done.index.places done.names.items
 
 -- more files are finished
 pub record Grows (old new : Done) : Type 0 where
@@ -104,12 +104,6 @@ abbrev pub IsLocal : LinkFault → Type 0
 IsLocal (Refused f n why) = Unit {0}
 IsLocal ShelfFault = ⊥
 IsLocal Memory = Unit {0}
-
--- no refusal
-abbrev pub IsDeviceFault : LinkFault → Type 0
-IsDeviceFault (Refused f n why) = ⊥
-IsDeviceFault ShelfFault = Unit {0}
-IsDeviceFault Memory = Unit {0}
 
 -- the refusal of a text that is no file's, or memory was wanting in reading
 abbrev pub IsUnread : List ℕ → ReadFault → LinkFault → Type 0

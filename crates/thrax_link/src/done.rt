@@ -7,15 +7,14 @@ ghost use Rattle.thrax_link.specs.Progress.{Grows, IsPlaced, finished_of, scope_
 
 use norm_base::Name;
 use std::alloc::{AllocError, Global};
-use std::collections::HashMap;
-use thrax_meaning::Table;
+use thrax_meaning::{NameIndex, Table};
 
 /// The files that were linked, in the order in which they were finished, each found at once by its name.
 #[derive(Drop)]
 pub(crate) struct Done {
     pub names: Vec<Name>,
     pub tables: Vec<Table>,
-    pub places: HashMap<Vec<u8>, usize>,
+    pub index: NameIndex,
 }
 
 impl Done {
@@ -28,7 +27,7 @@ impl Done {
         Done {
             names: Vec::new(alloc),
             tables: Vec::new(alloc),
-            places: HashMap::new(alloc),
+            index: NameIndex::new(alloc),
         }
     }
 
@@ -38,7 +37,7 @@ impl Done {
         ensures { (files : Files) → MatchOption result (finished_names (finished_of files self.now) name.now ≡ None)
             (λ k. (k < length self.now.tables.items) × (finished_names (finished_of files self.now) name.now ≡ Some (scope_at files self.now.tables.items k))) }
     {
-        self.places.get(name.bytes()).copied()
+        self.index.newest(name)
     }
 
     /// One more file, and its place.
@@ -50,10 +49,9 @@ impl Done {
         ensures placed { OnOk result (IsPlaced self.new) }
     {
         let place = self.tables.len();
-        let key = Vec::from_slice(alloc, name.bytes())?;
         self.names.push(Name::new(alloc, name.bytes())?)?;
         self.tables.push(table)?;
-        self.places.insert(key, place)?;
+        self.index.set(alloc, name, place)?;
         Ok(place)
     }
 }

@@ -1,6 +1,7 @@
 //! Why there is no grammar.
 
 use norm_base::Name;
+use std::alloc::{AllocError, AllocFailed};
 use thrax_meaning::Why;
 
 /// Why there is no grammar.
@@ -17,4 +18,26 @@ pub enum LinkFault {
     ShelfFault,
     /// There was no memory.
     Memory,
+}
+
+impl From<AllocError> for LinkFault {
+    ghost use Rattle.std.specs.Prelude.{◌≡◌};
+    ghost use Rattle.thrax_link.specs.declared.fault.LinkFault.TheVariants.{Memory};
+
+    ghost from_gives = { λ _ fault. fault ≡ Memory };
+
+    fn from(_: AllocError) -> LinkFault {
+        LinkFault::Memory
+    }
+}
+
+impl<T: Drop> From<AllocFailed<T>> for LinkFault {
+    ghost use Rattle.std.specs.Prelude.{◌≡◌};
+    ghost use Rattle.thrax_link.specs.declared.fault.LinkFault.TheVariants.{Memory};
+
+    ghost from_gives = { λ _ fault. fault ≡ Memory };
+
+    fn from(_: AllocFailed<T>) -> LinkFault {
+        LinkFault::Memory
+    }
 }

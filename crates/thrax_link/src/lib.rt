@@ -12,8 +12,6 @@ mod grammar;
 mod linking;
 mod refusals;
 mod statements;
-#[cfg(test)]
-mod tests;
 
 pub use core_expressions::{Expr, Mode, RewriteOf, Side};
 pub use fault::LinkFault;

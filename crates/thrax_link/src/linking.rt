@@ -4,13 +4,13 @@ ghost use Rattle.std.specs.Prelude.{◌≡◌, ◌≤◌, ◌<◌, ◌∷◌, �
 ghost use Rattle.weighted_relations.specs.Expressions.{IsSound};
 ghost use Rattle.norm_base.specs.Files.{Files};
 ghost use Rattle.thrax_meaning.specs.Answers.{WhereTold};
-ghost use Rattle.thrax_meaning.specs.Meaning.{empty};
+ghost use Rattle.thrax_meaning.specs.Meaning.{empty, named_file};
 ghost use Rattle.thrax_meaning.specs.Tables.{scope_over};
 ghost use Rattle.thrax_syntax.specs.Trees.{import_of, statement_term};
 ghost use Rattle.thrax_link.specs.Answers.{Counts, IsLinked, IsOutcome};
 ghost use Rattle.thrax_link.specs.Exports.{export_term, exports_of, exported_as, exported_entries};
-ghost use Rattle.thrax_link.specs.Linking.{Adds, Linked, LinksFetched, LinksRead, LinksText, LinksUnder, Outcome, Takes as TakesOne, TakesAll as TakesEach, is_among, name_of, named_file, exports};
-ghost use Rattle.thrax_link.specs.Progress.{Grows, Imports, IsDeviceFault, IsPlaced, IsUnread, IsWithin, Takes, TakesAll, finished_of, scope_at};
+ghost use Rattle.thrax_link.specs.Linking.{Adds, Linked, LinksFetched, LinksRead, LinksText, LinksUnder, Outcome, Takes as TakesOne, TakesAll as TakesEach, is_among, name_of, exports};
+ghost use Rattle.thrax_link.specs.Progress.{Grows, Imports, IsPlaced, IsUnread, IsWithin, Takes, TakesAll, finished_of, scope_at};
 ghost use Rattle.thrax_link.specs.declared.fault.LinkFault.TheVariants.{Memory as LinkMemory};
 ghost use Rattle.std.specs.Prelude.{Ok as OkOf};
 
@@ -20,10 +20,9 @@ use crate::grammar::{Export, Grammar};
 use crate::refusals::{import_loop, not_found, refusal, twice};
 use crate::statements::{add, define, define_function, is_used};
 use norm_base::{FetchFault, Name, Shelf};
-use std::alloc::Global;
+use std::alloc::{AllocError, Global};
 use std::collections::VecDeque;
-use std::str::from_utf8;
-use thrax_meaning::{Entry, Function, Kind, Table, Why};
+use thrax_meaning::{Entry, Function, Kind, Table, Why, fetch};
 use thrax_syntax::{ReadFault, Statement, read_file};
 
 /// How many files that import one another a chain has at most.
@@ -63,10 +62,8 @@ fn grammar_at(alloc: Global, mut tables: Vec<Table>, place: usize) -> Result<Gra
     ensures { MatchResult result (λ grammar. (files : Files) → exports (scope_at files tables.items place) ≡ exports_of grammar) (λ fault. fault ≡ LinkMemory) }
 {
     let table = tables.swap_remove(place);
-    match exported(alloc, table) {
-        Err(fault) => Err(fault),
-        Ok(exports) => Ok(Grammar::new(exports)),
-    }
+    let exports = exported(alloc, table)?;
+    Ok(Grammar::new(exports))
 }
 
 /// The place of an imported file, which is linked where it wasn't before. The chain may grow by `left` files.
@@ -106,12 +103,7 @@ fn import<H: Shelf>(
 fn is_in_chain(name: &Name, chain: &[Name]) -> bool
     ensures { result ≡ is_among name.now chain.now }
 {
-    for file in chain {
-        if *file == *name {
-            return true;
-        }
-    }
-    false
+    chain.iter().any(|file| *file == *name)
 }
 
 /// The place of a file that is fetched and linked.
@@ -134,24 +126,8 @@ fn open<H: Shelf>(
     ensures counts { Counts (H.faults shelf.old) (H.faults shelf.new) result }
 {
     match fetch(shelf, target) {
-        Err(fault) => Err(fault),
-        Ok(None) => Err(not_found(alloc, file, statement, target)),
         Ok(Some(text)) => link_text(alloc, shelf, done, chain, left, target, &text),
-    }
-}
-
-/// The text of the file of this name.
-fn fetch<H: Shelf>(shelf: &mut H, name: &Name) -> Result<Option<Vec<u8>>, LinkFault>
-    ensures found { WhereTold (H.files shelf.old) (λ files. IfOk result (λ text. option_map (λ bytes. bytes.items) text ≡ named_file files name.now)) }
-    ensures files { H.files shelf.new ≡ H.files shelf.old }
-    ensures counts { Counts (H.faults shelf.old) (H.faults shelf.new) result }
-    ensures device { IfErr result IsDeviceFault }
-{
-    let Ok(name) = from_utf8(name.bytes()) else {
-        return Ok(None);
-    };
-    match shelf.fetch(name) {
-        Ok(text) => Ok(text),
+        Ok(None) => Err(not_found(alloc, file, statement, target)),
         Err(FetchFault::Failed) => Err(LinkFault::ShelfFault),
         Err(FetchFault::Memory) => Err(LinkFault::Memory),
     }
@@ -210,7 +186,7 @@ fn link_statements<H: Shelf>(
     ensures counts { Counts (H.faults shelf.old) (H.faults shelf.new) result }
 {
     match longer(alloc, chain, name) {
-        Err(fault) => Err(fault),
+        Err(_) => Err(LinkFault::Memory),
         Ok(below) => match take_all(alloc, shelf, done, &below, left, name, statements) {
             Err(fault) => Err(fault),
             Ok(table) => match done.finish(alloc, name, table) {
@@ -222,26 +198,15 @@ fn link_statements<H: Shelf>(
 }
 
 /// The chain with one file more.
-fn longer(alloc: Global, chain: &[Name], name: &Name) -> Result<Vec<Name>, LinkFault>
-    ensures { MatchResult result (λ below. below.items ≡ chain.now ++ name.now ∷ []) (λ fault. fault ≡ LinkMemory) }
+fn longer(alloc: Global, chain: &[Name], name: &Name) -> Result<Vec<Name>, AllocError>
+    ensures { IfOk result (λ below. below.items ≡ chain.now ++ name.now ∷ []) }
 {
     let mut below = Vec::new(alloc);
     for file in chain {
-        match Name::new(alloc, file.bytes()) {
-            Ok(file) => match below.push(file) {
-                Ok(()) => {}
-                Err(_) => return Err(LinkFault::Memory),
-            },
-            Err(_) => return Err(LinkFault::Memory),
-        }
+        below.push(Name::new(alloc, file.bytes())?)?;
     }
-    match Name::new(alloc, name.bytes()) {
-        Ok(name) => match below.push(name) {
-            Ok(()) => Ok(below),
-            Err(_) => Err(LinkFault::Memory),
-        },
-        Err(_) => Err(LinkFault::Memory),
-    }
+    below.push(Name::new(alloc, name.bytes())?)?;
+    Ok(below)
 }
 
 /// The names of a file, its statements taken in order.
@@ -370,17 +335,14 @@ fn add_import<H: Shelf>(
 }
 
 /// The exported names of a file.
-fn exported(alloc: Global, table: Table) -> Result<Vec<Export>, LinkFault>
-    ensures { MatchResult result (λ exports. exports_of exports.items ≡ exported_entries table) (λ fault. fault ≡ LinkMemory) }
+fn exported(alloc: Global, table: Table) -> Result<Vec<Export>, AllocError>
+    ensures { IfOk result (λ exports. exports_of exports.items ≡ exported_entries table) }
 {
     let mut exports = Vec::new(alloc);
     for entry in table.into_entries() {
         match export_of(entry) {
             None => {}
-            Some(export) => match exports.push(export) {
-                Ok(()) => {}
-                Err(_) => return Err(LinkFault::Memory),
-            },
+            Some(export) => exports.push(export)?,
         }
     }
     Ok(exports)

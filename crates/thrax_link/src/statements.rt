@@ -59,10 +59,8 @@ pub(crate) fn add(table: &mut Table, name: Name, kind: Kind) -> Result<(), LinkF
     ensures ok { OnOk result (table.new ≡ table.old ++ record { name = name; kind = kind } ∷ []) }
     ensures err { IfErr result (λ fault. fault ≡ LinkFault.Memory) }
 {
-    match table.define(name, kind) {
-        Ok(()) => Ok(()),
-        Err(_) => Err(LinkFault::Memory),
-    }
+    table.define(name, kind)?;
+    Ok(())
 }
 
 /// A function, whose name is new. Its parameters and local names have to differ.

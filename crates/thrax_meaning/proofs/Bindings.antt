@@ -5,10 +5,10 @@ use Rattle.std.specs.declared.rc.Rc.{Rc}
 use Rattle.std.proofs.lemmas.List.{map-append, length-map}
 use Rattle.weighted_relations.specs.Expressions.{Expression}
 use Rattle.thrax_meaning.specs.Meaning.{bind}
-use Rattle.thrax_meaning.specs.Answers.{shared_of}
+use Rattle.checked_expressions.specs.Answers.{shared_of}
 use Rattle.thrax_meaning.specs.Tables.{local_of}
 use Rattle.thrax_meaning.specs.declared.table.Bound.{Bound}
-use Rattle.thrax_meaning.specs.declared.value.Value.{Value}
+use Rattle.checked_expressions.specs.declared.value.Value.{Value}
 
 bind_push : (ps : List (List ℕ)) (es : List Expression) (e : Expression) (d : List ℕ) → length es < length ps → bind ps (es ++ e ∷ []) ≡ bind ps es ++ record { named = get_or ps (length es) d; stands_for = e } ∷ []
 bind_push [] es e d h = absurd (omega (arith, h))

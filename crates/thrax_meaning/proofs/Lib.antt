@@ -1,12 +1,7 @@
-pub mod KindRules
-pub mod ListRules
 pub mod Scopes
 pub mod Index
 pub mod Quiet
 pub mod Fronts
-pub mod Cuts
-pub mod Digits
-pub mod EntryRules
 pub mod CallRules
 pub mod FileRules
 pub mod Bindings

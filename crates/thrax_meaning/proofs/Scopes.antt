@@ -1,19 +1,19 @@
--- A scope with one entry more.
-use Rattle.std.proofs.Common.{◌≡◌, ◌∙◌, refl, sym, ap, arith, ℕ, ◌+◌, List, [], ◌∷◌, ◌++◌, ◌<◌, ◌≤◌, take, length, get_or, true, false, length-append, zero, suc}
+-- The scopes that tables stand for, with one entry or one file more.
+use Rattle.std.proofs.Common.{◌≡◌, ◌∙◌, refl, sym, ap, arith, ℕ, ◌+◌, List, [], ◌∷◌, ◌++◌, ◌<◌, ◌≤◌, take, length, get_or, true, false, length-append, append_assoc, zero, suc}
 use Rattle.std.specs.Prelude.{if◌then◌else◌, Some}
 use Rattle.std.specs.Str.{bytes_eq}
-use Rattle.std.proofs.lemmas.List.{take_more}
+use Rattle.std.proofs.lemmas.List.{take_more, append-nil}
 use Rattle.norm_base.specs.Files.{Files}
 use Rattle.thrax_meaning.specs.Meaning.{Scope, empty, bound, found}
 use Rattle.thrax_meaning.specs.declared.table.Entry.{Entry}
 use Rattle.thrax_meaning.specs.Tables.{scope_of, scope_after, scopes_of, scopes_after, weights, meaning_of, weight, kind_weight}
 
-get_or-append-left : (xs ys : List Scope) (k : ℕ) (d : Scope) → k < length xs → get_or (xs ++ ys) k d ≡ get_or xs k d
+pub get_or-append-left : (xs ys : List Scope) (k : ℕ) (d : Scope) → k < length xs → get_or (xs ++ ys) k d ≡ get_or xs k d
 get_or-append-left [] ys k d h = absurd (omega (arith, h))
 get_or-append-left (x ∷ xs) ys zero d h = refl
 get_or-append-left (x ∷ xs) ys (suc k) d h = get_or-append-left xs ys k d (omega (arith, h))
 
-get_or-append-last : (xs : List Scope) (x d : Scope) → get_or (xs ++ x ∷ []) (length xs) d ≡ x
+pub get_or-append-last : (xs : List Scope) (x d : Scope) → get_or (xs ++ x ∷ []) (length xs) d ≡ x
 get_or-append-last [] x d = refl
 get_or-append-last (y ∷ ys) x d = get_or-append-last ys x d
 
@@ -57,7 +57,7 @@ prefix_kept f done [] k h = refl
 prefix_kept f done (t ∷ ts) k h =
     prefix_kept f (done ++ scope_of f done t ∷ []) ts k (let long = length-append done (scope_of f done t ∷ []) in omega (arith, long, h)) ∙ get_or-append-left done (scope_of f done t ∷ []) k empty h
 
-scopes_length : (f : Files) (done : List Scope) (ts : List (List Entry)) → length (scopes_after f done ts) ≡ length done + length ts
+pub scopes_length : (f : Files) (done : List Scope) (ts : List (List Entry)) → length (scopes_after f done ts) ≡ length done + length ts
 scopes_length f done [] = omega arith
 scopes_length f done (t ∷ ts) =
     let more = scopes_length f (done ++ scope_of f done t ∷ []) ts in
@@ -86,3 +86,19 @@ pub weights_at : (ts : List (List Entry)) (i : ℕ) (t : List Entry) → i < len
 weights_at [] i t h e = absurd (omega (arith, h))
 weights_at (u ∷ us) zero t h e = let same : weight t ≡ weight u = ap weight e in omega (arith, same)
 weights_at (u ∷ us) (suc i) t h e = let more = weights_at us i t (omega (arith, h)) e in omega (arith, more)
+
+-- one file more
+pub scopes_push : (f : Files) (done : List Scope) (ts : List (List Entry)) (t : List Entry) → scopes_after f done (ts ++ t ∷ []) ≡ scopes_after f done ts ++ scope_of f (scopes_after f done ts) t ∷ []
+scopes_push f done [] t = refl
+scopes_push f done (u ∷ us) t = scopes_push f (done ++ scope_of f done u ∷ []) us t
+
+scopes_extend : (f : Files) (done : List Scope) (ts : List (List Entry)) → (rest : List Scope) × (scopes_after f done ts ≡ done ++ rest)
+scopes_extend f done [] = ([], sym (append-nil done))
+scopes_extend f done (t ∷ ts) =
+    let more = scopes_extend f (done ++ scope_of f done t ∷ []) ts in
+    (scope_of f done t ∷ more.0, more.1 ∙ append_assoc done (scope_of f done t ∷ []) more.0)
+
+-- the scopes of more files go on from those of fewer
+pub scopes_grow_after : (f : Files) (done : List Scope) (ts more : List (List Entry)) → (rest : List Scope) × (scopes_after f done (ts ++ more) ≡ scopes_after f done ts ++ rest)
+scopes_grow_after f done [] more = scopes_extend f done more
+scopes_grow_after f done (t ∷ ts) more = scopes_grow_after f (done ++ scope_of f done t ∷ []) ts more

@@ -6,16 +6,11 @@ use Rattle.std.specs.declared.rc.Rc.{Rc}
 use Rattle.std.proofs.Common.{Bor}
 use Rattle.norm_base.specs.Counts.{Rose}
 use Rattle.norm_base.specs.Files.{Files}
-use Rattle.weighted_relations.specs.Expressions.{Expression}
-use Rattle.core_expressions.specs.Views.{expression_of}
+use Rattle.checked_expressions.specs.Answers.{shared_of}
+use Rattle.checked_expressions.specs.declared.value.Value.{Value}
 use Rattle.thrax_meaning.specs.Meaning.{Taken, refused, taken, AllTaken, one_refused, all_taken}
-use Rattle.thrax_meaning.specs.declared.value.Value.{Value}
 use Rattle.thrax_meaning.specs.declared.why.Stop.{Stop}
 use Rattle.thrax_meaning.specs.declared.why.Stop.TheVariants.{Refused, ShelfFault, Memory}
-
--- the expression of a value that may be shared
-abbrev pub shared_of : Rc Value Global → Expression
-shared_of v = expression_of v.value.expr
 
 -- an answer is what is meant, unless the shelf failed or memory is wanting
 abbrev pub Gives : Result (Rc Value Global) Stop → Taken → Type 0
@@ -51,10 +46,3 @@ IsQuiet (Ok x) = Unit {0}
 IsQuiet (Err (Refused why)) = Unit {0}
 IsQuiet (Err ShelfFault) = ⊥
 IsQuiet (Err Memory) = Unit {0}
-
--- an answer of a part that refuses nothing
-abbrev pub IsOutside : {T : Type 0} → Result T Stop → Type 0
-IsOutside (Ok x) = Unit {0}
-IsOutside (Err (Refused why)) = ⊥
-IsOutside (Err ShelfFault) = Unit {0}
-IsOutside (Err Memory) = Unit {0}

@@ -1,9 +1,5 @@
-pub mod Sound
-pub mod Fields
-pub mod StringFiles
 pub mod Meaning
 pub mod Index
 pub mod Tables
 pub mod Answers
-pub mod Entries
 pub mod Calls

@@ -1,16 +1,18 @@
 -- What a tree means in a scope: its expression, or the first refusal.
 -- A name means its expression, and a call the body with the arguments put in. A function is a map from arguments to
 -- expressions, made where the function is defined, so it can't see itself or what comes later.
-use Rattle.std.specs.Prelude.{ℕ, suc, ◌-◌, ◌==◌, nat_lt, List, [], ◌∷◌, ◌++◌, length, replicate, codes, Bool, true, false, if◌then◌else◌, None, Some}
+use Rattle.std.specs.Prelude.{ℕ, suc, ◌==◌, nat_lt, List, [], ◌∷◌, ◌++◌, length, codes, Bool, true, false, if◌then◌else◌, None, Some}
 use Rattle.std.specs.Str.{bytes_eq, is_utf8}
 use Rattle.std.specs.declared.option.Option.{Option}
 use Rattle.norm_base.specs.Files.{Files, file_of}
 use Rattle.weighted_relations.specs.Rewriting.{Manner, obligatory, optional}
-use Rattle.weighted_relations.specs.Expressions.{Expression, text, weighted, union, concat, star, cross, compose, minus, invert, project, rewrite, members, input_side, output_side, size, is_acceptor, is_weighted, is_marked}
+use Rattle.weighted_relations.specs.Expressions.{Expression, weighted, union, concat, star, compose, invert, project, members, input_side, output_side}
+use Rattle.checked_expressions.specs.Nodes.{Checked, unfit, fit, sized, text_of, cross_of, minus_of, rewrite_of, plus, maybe, times}
+use Rattle.checked_expressions.specs.declared.fault.KindFault.{KindFault}
+use Rattle.checked_expressions.specs.declared.fault.KindFault.TheVariants as kinds
+use Rattle.string_files.specs.Lexicons.{Lexicon, bad_pair, union_of, file_lexicon}
 use Rattle.thrax_syntax.specs.Trees.{TreeTerm, TreeTerms, no_terms, term, LocalTerm}
 use Rattle.thrax_syntax.specs.Trees as tree
-use Rattle.thrax_meaning.specs.Sound.{are_labels}
-use Rattle.thrax_meaning.specs.StringFiles.{Entries, bad_line, entries, file_entries}
 use Rattle.thrax_meaning.specs.declared.why.Why.{Why}
 use Rattle.thrax_meaning.specs.declared.why.Why.TheVariants.{NotFound, Unknown, NotExported, Arity, NotAcceptor, IsWeighted, Unsupported, BadPair, TooLarge}
 use Rattle.thrax_meaning.specs.declared.built_ins.BuiltIn.{BuiltIn}
@@ -59,48 +61,17 @@ onto (taken e) (all_taken es) = all_taken (e ∷ es)
 
 -- Nodes by their kinds
 
--- within the limit of sizes
-abbrev pub sized : Expression → Taken
-sized e = if nat_lt (size e) 4194304 then taken e else refused TooLarge
+-- why a grammar is refused whose expression breaks a rule
+abbrev pub why_of : KindFault → Why
+why_of kinds.NotAcceptor = NotAcceptor
+why_of kinds.IsWeighted = IsWeighted
+why_of kinds.Unsupported = Unsupported
+why_of kinds.TooLarge = TooLarge
 
--- the rest, where the expression is an acceptor
-abbrev pub accepting : Expression → Taken → Taken
-accepting e rest = if is_acceptor e then rest else refused NotAcceptor
-
--- the rest, where the expression has no weights
-abbrev pub unweighted : Expression → Taken → Taken
-unweighted e rest = if is_weighted e then refused IsWeighted else rest
-
--- the rest, where the expression holds no mark
-abbrev pub unmarked : Expression → Taken → Taken
-unmarked e rest = if is_marked e then refused Unsupported else rest
-
--- a text; of other labels than 1 to 257, which no file has, there is none
-abbrev pub text_of : List ℕ → Taken
-text_of labels = if are_labels labels then sized (text labels) else refused Unsupported
-
-abbrev pub cross_of : Expression → Expression → Taken
-cross_of a b = accepting a (accepting b (sized (cross a b)))
-
-abbrev pub minus_of : Expression → Expression → Taken
-minus_of a b = accepting a (accepting b (unweighted b (sized (minus a b))))
-
-abbrev pub rewrite_of : Manner → Expression → Expression → Expression → Expression → Taken
-rewrite_of manner tau left right sigma =
-    accepting left (unweighted left (accepting right (unweighted right (accepting sigma (unweighted sigma
-    (unmarked tau (unmarked sigma (sized (rewrite tau left right sigma manner)))))))))
-
--- once or more
-abbrev pub plus : Expression → Expression
-plus e = concat (members (e ∷ star e ∷ []))
-
--- once or not at all
-abbrev pub maybe : Expression → Expression
-maybe e = union (members (text [] ∷ e ∷ []))
-
--- at least m times and at most n times
-abbrev pub times : Expression → ℕ → ℕ → Expression
-times e m n = concat (members (replicate m e ++ replicate (n - m) (maybe e)))
+-- an expression that is checked
+abbrev pub taken_of : Checked → Taken
+taken_of (unfit fault) = refused (why_of fault)
+taken_of (fit e) = taken e
 
 -- Names
 
@@ -160,20 +131,20 @@ pub record Argument : Type 0 where
 
 abbrev pub projected : List ℕ → Expression → Taken
 projected side e =
-    if bytes_eq side (codes "input") then sized (project e input_side) else
-    if bytes_eq side (codes "output") then sized (project e output_side) else refused Unsupported
+    if bytes_eq side (codes "input") then taken_of (sized (project e input_side)) else
+    if bytes_eq side (codes "output") then taken_of (sized (project e output_side)) else refused Unsupported
 
 abbrev pub project_of : Expression → Option (List ℕ) → Taken
 project_of e (Some side) = projected side e
 project_of e None = refused Unsupported
 
-abbrev pub from_entries : List ℕ → Entries → Taken
-from_entries name (bad_line number) = refused (BadPair name number)
-from_entries name (entries es) = sized (union (members es))
+abbrev pub from_lexicon : List ℕ → Lexicon → Taken
+from_lexicon name (bad_pair number) = refused (BadPair name number)
+from_lexicon name (union_of all) = taken_of all
 
 abbrev pub from_file : List ℕ → Option (List ℕ) → Taken
 from_file name None = refused (NotFound name)
-from_file name (Some bytes) = from_entries name (file_entries bytes)
+from_file name (Some bytes) = from_lexicon name (file_lexicon bytes)
 
 -- The file of a name. A shelf is asked by text, so a name that isn't UTF-8, which no grammar file has, is no file's.
 abbrev pub named_file : Files → List ℕ → Option (List ℕ)
@@ -206,7 +177,7 @@ options_of (way ∷ mode ∷ rest) = after_way way (manner_of mode.quoted)
 
 abbrev pub rewrite_told : Option Manner → Expression → Expression → Expression → Expression → Taken
 rewrite_told None tau left right sigma = refused Unsupported
-rewrite_told (Some manner) tau left right sigma = rewrite_of manner tau left right sigma
+rewrite_told (Some manner) tau left right sigma = taken_of (rewrite_of manner tau left right sigma)
 
 abbrev pub rewrite_call : Argument → Argument → Argument → Argument → List Argument → Taken
 rewrite_call tau left right sigma options =
@@ -216,7 +187,7 @@ rewrite_call tau left right sigma options =
 abbrev pub built_in_call : Files → BuiltIn → List Argument → Taken
 built_in_call files Optimize (e ∷ []) = e.operand
 built_in_call files Optimize args = refused (Arity 1 (length args))
-built_in_call files Invert (e ∷ []) = followed e.operand (λ e. sized (invert e))
+built_in_call files Invert (e ∷ []) = followed e.operand (λ e. taken_of (sized (invert e)))
 built_in_call files Invert args = refused (Arity 1 (length args))
 built_in_call files Project (e ∷ side ∷ []) = followed e.operand (λ e. project_of e side.quoted)
 built_in_call files Project args = refused (Arity 2 (length args))
@@ -268,22 +239,22 @@ quoted_bytes (tree.times e m n) = None
 -- what a tree means over these files, in a scope and among the names of the function that is called
 abbrev mutual
   pub meant : Files → Scope → List Local → TreeTerm → Taken
-  meant f s l (tree.text labels) = text_of labels
+  meant f s l (tree.text labels) = taken_of (text_of labels)
   meant f s l (tree.quoted bytes) = refused Unsupported
   meant f s l (tree.use_of n) = used n (local l n) (found s n)
   meant f s l (tree.member a n) = exported (dotted a n) (found (names_of (found s a)) n)
   meant f s l (tree.call n args) = called_by f (built_in n) (arguments f s l args) (called n (found s n) (count args) (meant_each f s l args))
   meant f s l (tree.call_member a n args) = called (dotted a n) (found (names_of (found s a)) n) (count args) (meant_each f s l args)
-  meant f s l (tree.union ts) = followed_all (meant_each f s l ts) (λ es. sized (union (members es)))
-  meant f s l (tree.concat ts) = followed_all (meant_each f s l ts) (λ es. sized (concat (members es)))
-  meant f s l (tree.cross a b) = followed (meant f s l a) (λ a. followed (meant f s l b) (λ b. cross_of a b))
-  meant f s l (tree.compose a b) = followed (meant f s l a) (λ a. followed (meant f s l b) (λ b. sized (compose a b)))
-  meant f s l (tree.minus a b) = followed (meant f s l a) (λ a. followed (meant f s l b) (λ b. minus_of a b))
-  meant f s l (tree.weighted t w) = followed (meant f s l t) (λ e. sized (weighted e w))
-  meant f s l (tree.star t) = followed (meant f s l t) (λ e. sized (star e))
-  meant f s l (tree.plus t) = followed (meant f s l t) (λ e. sized (plus e))
-  meant f s l (tree.maybe t) = followed (meant f s l t) (λ e. sized (maybe e))
-  meant f s l (tree.times t m n) = followed (meant f s l t) (λ e. sized (times e m n))
+  meant f s l (tree.union ts) = followed_all (meant_each f s l ts) (λ es. taken_of (sized (union (members es))))
+  meant f s l (tree.concat ts) = followed_all (meant_each f s l ts) (λ es. taken_of (sized (concat (members es))))
+  meant f s l (tree.cross a b) = followed (meant f s l a) (λ a. followed (meant f s l b) (λ b. taken_of (cross_of a b)))
+  meant f s l (tree.compose a b) = followed (meant f s l a) (λ a. followed (meant f s l b) (λ b. taken_of (sized (compose a b))))
+  meant f s l (tree.minus a b) = followed (meant f s l a) (λ a. followed (meant f s l b) (λ b. taken_of (minus_of a b)))
+  meant f s l (tree.weighted t w) = followed (meant f s l t) (λ e. taken_of (sized (weighted e w)))
+  meant f s l (tree.star t) = followed (meant f s l t) (λ e. taken_of (sized (star e)))
+  meant f s l (tree.plus t) = followed (meant f s l t) (λ e. taken_of (sized (plus e)))
+  meant f s l (tree.maybe t) = followed (meant f s l t) (λ e. taken_of (sized (maybe e)))
+  meant f s l (tree.times t m n) = followed (meant f s l t) (λ e. taken_of (sized (times e m n)))
 
   -- trees in order
   pub meant_each : Files → Scope → List Local → TreeTerms → AllTaken

@@ -4,12 +4,14 @@ ghost use Rattle.std.specs.Prelude.{◌≡◌, List, ℕ, codes};
 ghost use Rattle.std.specs.Option.{option_map};
 ghost use Rattle.core_expressions.specs.Views.{manner_of as manner_view};
 ghost use Rattle.thrax_syntax.specs.Trees.{tree_term};
-ghost use Rattle.thrax_meaning.specs.Answers.{Gives, IsQuiet, shared_of, name_view};
+ghost use Rattle.checked_expressions.specs.Answers.{shared_of};
+ghost use Rattle.thrax_meaning.specs.Answers.{Gives, IsQuiet, name_view};
 ghost use Rattle.thrax_meaning.specs.Meaning.{refused, built_in, is_left_to_right, manner_of, project_of, quoted_bytes};
 ghost use Rattle.thrax_meaning.specs.declared.why.Why.TheVariants.{Arity};
 
-use crate::nodes::project;
+use crate::answers::answer;
 use crate::{Stop, Value, Why};
+use checked_expressions::project;
 use core_expressions::{Mode, Side};
 use norm_base::Name;
 use std::alloc::Global;
@@ -90,10 +92,10 @@ pub(crate) fn project_side(
         return Err(Stop::Refused(Why::Unsupported));
     };
     if name.bytes() == b"input".as_slice() {
-        return project(alloc, value, Side::Input);
+        return answer(project(alloc, value, Side::Input));
     }
     if name.bytes() == b"output".as_slice() {
-        return project(alloc, value, Side::Output);
+        return answer(project(alloc, value, Side::Output));
     }
     Err(Stop::Refused(Why::Unsupported))
 }

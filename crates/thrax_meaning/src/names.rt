@@ -2,7 +2,8 @@
 
 ghost use Rattle.std.specs.Prelude.{◌≡◌, ◌<◌, ◌≤◌, ◌+◌, ℕ, List, length, map, take, get_or, MatchOption, IfOk, IfSome, None, Some};
 ghost use Rattle.norm_base.specs.Files.{Files};
-ghost use Rattle.thrax_meaning.specs.Answers.{Gives, IsQuiet, shared_of};
+ghost use Rattle.checked_expressions.specs.Answers.{shared_of};
+ghost use Rattle.thrax_meaning.specs.Answers.{Gives, IsQuiet};
 ghost use Rattle.thrax_meaning.specs.Meaning.{refused, taken, used, exported, dotted, found, names_of, local, empty};
 ghost use Rattle.thrax_meaning.specs.Tables.{scope_at, locals_at, scope_over, local_of, place_weight, weights};
 

@@ -1,16 +1,14 @@
 //! The names that a file has defined so far.
 
 ghost use Rattle.std.specs.Prelude.{◌≡◌, ◌<◌, ◌≤◌, ◌+◌, [], ◌∷◌, ◌++◌, OnOk, OnErr, IfSome, MatchOption, Some, None, List, ℕ, length, take, is_some};
-ghost use Rattle.std.specs.HashMap.{IsUnchanged};
 ghost use Rattle.norm_base.specs.Files.{Files};
-ghost use Rattle.thrax_meaning.specs.Index.{IsIndex};
 ghost use Rattle.thrax_meaning.specs.Meaning.{found, Scope};
 ghost use Rattle.thrax_meaning.specs.Tables.{scope_of, meaning_of, weight, kind_weight};
 
 use crate::Value;
+use crate::name_index::NameIndex;
 use norm_base::Name;
 use std::alloc::{AllocError, Global};
-use std::collections::HashMap;
 use std::marker::Model;
 use std::rc::Rc;
 use thrax_syntax::{Local, Tree};
@@ -51,7 +49,7 @@ pub struct Entry {
 #[derive(Drop)]
 pub struct Table {
     entries: Vec<Entry>,
-    places: HashMap<Vec<u8>, usize>,
+    index: NameIndex,
 }
 
 impl Model for Table {
@@ -66,7 +64,7 @@ impl Model for Table {
 
     ghost view = { λ t. t.entries.items };
 
-    ghost invariant = { λ t. IsIndex t.places (map (λ e. e.name) t.entries.items) };
+    ghost invariant = { λ t. IsIndex t.index.places (map (λ e. e.name) t.entries.items) };
 
     ghost coded = { Prim.hlevel (codes, expr.the_row.coded, tree.the_row.coded) };
 }
@@ -78,7 +76,7 @@ impl Table {
     {
         Table {
             entries: Vec::new(alloc),
-            places: HashMap::new(alloc),
+            index: NameIndex::new(alloc),
         }
     }
 
@@ -91,7 +89,7 @@ impl Table {
         let at = self.entries.len();
         // With room for the entry, nothing can fail once the name has its place.
         self.entries.reserve(1)?;
-        set_place(alloc, &mut self.places, &name, at)?;
+        self.index.set(alloc, &name, at)?;
         self.entries.push(Entry { name, kind })?;
         Ok(())
     }
@@ -110,8 +108,8 @@ impl Table {
             (λ r. found (scope_of f done (take count self.now)) name.now ≡ Some (meaning_of f done (scope_of f done (take r.0 self.now)) r.1.now)) }
         ensures before { IfSome result (λ r. (r.0 < count) × (weight (take r.0 self.now) + kind_weight r.1.now ≤ weight (take count self.now))) }
     {
-        match self.places.get(name.bytes()) {
-            Some(place) if *place < count => Some((*place, &self.entries[*place].kind)),
+        match self.index.newest(name) {
+            Some(place) if place < count => Some((place, &self.entries[place].kind)),
             Some(_) => find_among(&self.entries, count, name),
             None => None,
         }
@@ -121,7 +119,7 @@ impl Table {
     pub fn is_defined(&self, name: &Name) -> bool
         ensures { (f : Files) → (done : List Scope) → result ≡ is_some (found (scope_of f done self.now) name.now) }
     {
-        self.places.contains_key(name.bytes())
+        self.index.newest(name).is_some()
     }
 
     /// The entries, in order.
@@ -130,21 +128,6 @@ impl Table {
     {
         self.entries
     }
-}
-
-/// Gives a name its place, which is behind all others.
-fn set_place(
-    alloc: Global,
-    places: &mut HashMap<Vec<u8>, usize>,
-    name: &Name,
-    at: usize,
-) -> Result<(), AllocError>
-    ensures ok { OnOk result ((names : List (List ℕ)) → at ≡ length names → IsIndex places.old names → IsIndex places.new (names ++ name.now ∷ [])) }
-    ensures err { OnErr result (IsUnchanged places.old places.new) }
-{
-    let key = Vec::from_slice(alloc, name.bytes())?;
-    places.insert(key, at)?;
-    Ok(())
 }
 
 /// What the newest of the first `count` entries of a name is, with its place.

@@ -9,22 +9,25 @@ ghost use Rattle.thrax_syntax.specs.Trees as tree;
 ghost use Rattle.thrax_syntax.specs.declared.tree.Tree.{size-Tree};
 ghost use denote.Param.Weighed.{most};
 ghost use Rattle.thrax_meaning.specs.Calls.{given, rewritten};
-ghost use Rattle.thrax_meaning.specs.Answers.{Gives, GivesAll, Counts, IsQuiet, WhereTold, shared_of};
+ghost use Rattle.checked_expressions.specs.Answers.{shared_of};
+ghost use Rattle.thrax_meaning.specs.Answers.{Gives, GivesAll, Counts, IsQuiet, WhereTold};
 ghost use Rattle.thrax_meaning.specs.Meaning.{refused, applied, arguments, built_in_call, bind, meant, meant_each, in_turn, function_of, options_of, rewrite_told, count, Scope, Local as LocalName};
 ghost use Rattle.thrax_meaning.specs.Tables.{scope_over, scope_at, locals_at, local_of, place_weight, body_size};
 
+use crate::answers::answer;
 use crate::args::{
     RewriteArgs, both, four, function_arity, invert_arity, is_arity, only, optimize_arity,
     project_arity, rewrite_few, rewrite_many, string_file_arity,
 };
 use crate::built_ins::{BuiltIn, goes_right, mode_named, project_side, quoted};
-use crate::lists::{concat, maybe, plus, times, union};
+use crate::files::string_file;
 use crate::names::{copied, dotted, unknown};
-use crate::nodes::{compose, cross, invert, minus, rewrite, star, text, weighted};
 use crate::place::Place;
-use crate::string_files::string_file;
 use crate::table::{Bound, Function, Kind};
 use crate::{Stop, Table, Value, Why};
+use checked_expressions::{
+    compose, concat, cross, invert, maybe, minus, plus, rewrite, star, text, times, union, weighted,
+};
 use core_expressions::Mode;
 use norm_base::{Name, Shelf};
 use std::alloc::{AllocError, Global};
@@ -66,37 +69,37 @@ fn take_at<H: Shelf>(
     ensures counts { Counts (H.faults shelf.old) (H.faults shelf.new) result }
 {
     match tree {
-        Tree::Text(labels) => text(alloc, labels),
+        Tree::Text(labels) => answer(text(alloc, labels)),
         Tree::Quoted(_) => Err(Stop::Refused(Why::Unsupported)),
         Tree::Use(name) => place.used(alloc, name),
         Tree::Member(alias, name) => place.member(alloc, alias, name),
         Tree::Call(name, args) => call(alloc, shelf, place, name, args),
         Tree::CallMember(alias, name, args) => call_member(alloc, shelf, place, alias, name, args),
-        Tree::Union(parts) => union(alloc, take_each(alloc, shelf, place, parts)?),
-        Tree::Concat(parts) => concat(alloc, take_each(alloc, shelf, place, parts)?),
+        Tree::Union(parts) => answer(union(alloc, take_each(alloc, shelf, place, parts)?)),
+        Tree::Concat(parts) => answer(concat(alloc, take_each(alloc, shelf, place, parts)?)),
         Tree::Cross(a, b) => {
             let input = take_at(alloc, shelf, place, a)?;
             let output = take_at(alloc, shelf, place, b)?;
-            cross(alloc, input, output)
+            answer(cross(alloc, input, output))
         }
         Tree::Compose(a, b) => {
             let first = take_at(alloc, shelf, place, a)?;
             let second = take_at(alloc, shelf, place, b)?;
-            compose(alloc, first, second)
+            answer(compose(alloc, first, second))
         }
         Tree::Minus(a, b) => {
             let all = take_at(alloc, shelf, place, a)?;
             let without = take_at(alloc, shelf, place, b)?;
-            minus(alloc, all, without)
+            answer(minus(alloc, all, without))
         }
         Tree::Weighted(part, weight) => {
-            weighted(alloc, take_at(alloc, shelf, place, part)?, *weight)
+            answer(weighted(alloc, take_at(alloc, shelf, place, part)?, *weight))
         }
-        Tree::Star(part) => star(alloc, take_at(alloc, shelf, place, part)?),
-        Tree::Plus(part) => plus(alloc, take_at(alloc, shelf, place, part)?),
-        Tree::Maybe(part) => maybe(alloc, take_at(alloc, shelf, place, part)?),
+        Tree::Star(part) => answer(star(alloc, take_at(alloc, shelf, place, part)?)),
+        Tree::Plus(part) => answer(plus(alloc, take_at(alloc, shelf, place, part)?)),
+        Tree::Maybe(part) => answer(maybe(alloc, take_at(alloc, shelf, place, part)?)),
         Tree::Times(part, least, most) => {
-            times(alloc, take_at(alloc, shelf, place, part)?, *least, *most)
+            answer(times(alloc, take_at(alloc, shelf, place, part)?, *least, *most))
         }
     }
 }
@@ -275,7 +278,7 @@ fn call_built_in<H: Shelf>(
             None => optimize_arity(args),
         },
         BuiltIn::Invert => match only(args) {
-            Some(part) => invert(alloc, take_at(alloc, shelf, place, part)?),
+            Some(part) => answer(invert(alloc, take_at(alloc, shelf, place, part)?)),
             None => invert_arity(args),
         },
         BuiltIn::Project => match both(args) {
@@ -348,7 +351,7 @@ fn told_rewrite(
     ensures quiet { IsQuiet result }
 {
     match mode_of(options) {
-        Some(mode) => rewrite(alloc, mode, tau, left, right, sigma),
+        Some(mode) => answer(rewrite(alloc, mode, tau, left, right, sigma)),
         None => Err(Stop::Refused(Why::Unsupported)),
     }
 }

@@ -1,8 +1,10 @@
 //! Why a grammar is refused.
 
 ghost use Rattle.std.specs.Prelude.{◌≡◌};
+ghost use Rattle.thrax_meaning.specs.Meaning.{why_of};
 ghost use Rattle.thrax_meaning.specs.declared.why.Stop.TheVariants.{Memory as StopMemory};
 
+use checked_expressions::KindFault;
 use norm_base::Name;
 use std::alloc::{AllocError, AllocFailed};
 use thrax_syntax::ReadFault;
@@ -37,6 +39,19 @@ pub enum Why {
     BadPair { file: Name, line: u64 },
     /// The size of an expression reaches 2^22.
     TooLarge,
+}
+
+impl From<KindFault> for Why {
+    ghost from_gives = { λ fault why. why ≡ why_of fault };
+
+    fn from(fault: KindFault) -> Why {
+        match fault {
+            KindFault::NotAcceptor => Why::NotAcceptor,
+            KindFault::IsWeighted => Why::IsWeighted,
+            KindFault::Unsupported => Why::Unsupported,
+            KindFault::TooLarge => Why::TooLarge,
+        }
+    }
 }
 
 /// Why there is no answer.

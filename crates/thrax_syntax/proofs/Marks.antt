@@ -1,6 +1,6 @@
 -- One mark of repetition.
 use Rattle.std.proofs.Common.{◌≡◌, sym, subst, refl, ℕ, ◌≤◌, List, ◌∷◌}
-use Rattle.thrax_lexer.specs.Answers.{Takes}
+use Rattle.text_forms.specs.Answers.{Takes}
 use Rattle.thrax_lexer.specs.Lexemes.{Lex, number, symbol}
 use Rattle.thrax_lexer.specs.declared.bytes.Symbol.TheVariants.{Comma, Star, Plus, Question, OpenBrace, CloseBrace}
 use Rattle.thrax_syntax.specs.Grammar.{RepeatAt, star_mark, plus_mark, question_mark, braces}

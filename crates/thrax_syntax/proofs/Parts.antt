@@ -1,7 +1,7 @@
 -- How the parts of the grammar go on.
 use Rattle.std.proofs.Common.{◌≡◌, ◌∙◌, sym, ap, subst, refl, arith, ℕ, ◌+◌, ◌≤◌, List, [], ◌∷◌, ◌++◌, length, map, true, false}
 use Rattle.std.proofs.lemmas.List.{map-append, length-append}
-use Rattle.thrax_lexer.specs.Answers.{Takes}
+use Rattle.text_forms.specs.Answers.{Takes}
 use Rattle.thrax_lexer.specs.Lexemes.{Lex, word, keyword, number, weight, string, quoted as between_quotes, symbol}
 use Rattle.thrax_lexer.specs.Strings.{Labels}
 use Rattle.thrax_lexer.specs.declared.bytes.Symbol.{Symbol}

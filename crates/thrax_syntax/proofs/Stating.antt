@@ -1,17 +1,17 @@
 -- How statements go on.
 use Rattle.std.proofs.Common.{◌≡◌, ◌∙◌, sym, ap, subst, refl, ℕ, List, [], ◌∷◌, Bool, true, false}
-use Rattle.thrax_lexer.specs.Answers.{Takes}
+use Rattle.text_forms.specs.Answers.{Takes}
 use Rattle.thrax_lexer.specs.Lexemes.{Lex, word, keyword, quoted, symbol}
-use Rattle.thrax_lexer.specs.Steps.{Many, Longest}
+use Rattle.text_forms.specs.Steps.{Many, Longest}
 use Rattle.thrax_lexer.specs.declared.bytes.Symbol.TheVariants.{Equals, Semicolon, Comma, OpenBrace, CloseBrace, OpenBracket, CloseBracket}
 use Rattle.thrax_lexer.specs.declared.lexemes.Keyword.TheVariants.{Export, Import, As, Func, Return}
-use Rattle.thrax_lexer.proofs.Chains.{ended_by}
+use Rattle.text_forms.proofs.Chains.{ended_by}
 use Rattle.thrax_syntax.specs.Grammar.{Spells, expr}
 use Rattle.thrax_syntax.specs.Outcomes.{Misses}
 use Rattle.thrax_syntax.specs.Statements.{NextParam, next_param, Params, no_params, some_params, Defined, defined, Locals, braced, BodyTerm, Body, body, Function, function, Stated, import_is, define_is, export_is, function_is, export_function_is}
 use Rattle.thrax_syntax.specs.Trees.{TreeTerm, LocalTerm, StatementTerm, import_of, define, func}
 use Rattle.thrax_syntax.specs.declared.stop.Stop.TheVariants.{Syntax}
-use Rattle.thrax_syntax.proofs.Taking.{Then, Made, Same}
+use Rattle.text_forms.proofs.Taking.{Then, Made, Same}
 
 -- what parts are made into
 abbrev pub local_of : List ℕ → TreeTerm → LocalTerm

@@ -5,10 +5,10 @@ use Rattle.std.proofs.lemmas.List.{length-append, length-map}
 use Rattle.std.specs.Prelude.{Result, Ok, Err, IsErrAnd}
 use Rattle.thrax_lexer.specs.Lexemes.{Lex}
 use Rattle.thrax_lexer.specs.Reading.{LexFails, LexText, Stopped, StoppedBy, lexes, too_deep}
-use Rattle.thrax_lexer.specs.Steps.{Many, none, more, Longest}
+use Rattle.text_forms.specs.Steps.{Many, Longest}
 use Rattle.thrax_lexer.specs.declared.reading.LexFault.{LexFault}
 use Rattle.thrax_lexer.specs.declared.reading.LexFault.TheVariants as lexing
-use Rattle.thrax_lexer.proofs.Chains.{ended_by}
+use Rattle.text_forms.proofs.Chains.{ended_by, longest_once}
 use Rattle.thrax_syntax.specs.Files.{DeepText, Reading, IsRead, IsAnswer, fault_of}
 use Rattle.thrax_syntax.specs.FileOutcomes.{FileAnswers, StatesAs}
 use Rattle.thrax_syntax.specs.Statements.{Stated, define_is}
@@ -16,27 +16,6 @@ use Rattle.thrax_syntax.specs.Trees.{StatementTerm}
 use Rattle.thrax_syntax.specs.declared.fault.ReadFault.{ReadFault}
 use Rattle.thrax_syntax.specs.declared.fault.ReadFault.TheVariants.{BadLexeme, BadWeight, TooDeep, Syntax, Memory}
 use Rattle.thrax_syntax.specs.declared.tree.File.{File}
-
-many_nothing : {A X : Type 0} {P : List A → X → List A → Type 0} {zs : List X} {a b : List A} → length zs ≡ 0 → Many P a zs b → (zs ≡ []) × (a ≡ b)
-many_nothing h none = (refl, refl)
-many_nothing h (more p q) = absurd (omega (arith, h))
-
--- there is one longest list
-pub longest_once : {A X : Type 0} {P : List A → X → List A → Type 0} {a r s : List A} {xs ys : List X} → Longest P a xs r → Longest P a ys s → (ys ≡ xs) × (s ≡ r)
-longest_once {r} {s} {xs} {ys} l m =
-    let f = l.only ys s m.list in
-    let g = m.only xs r l.list in
-    let e : length xs ≡ length ys + length f.0 = ap length f.1 ∙ length-append ys f.0 in
-    let h : length ys ≡ length xs + length g.0 = ap length g.1 ∙ length-append xs g.0 in
-    let z : length f.0 ≡ 0 = omega (arith, e, h) in
-    let w : length g.0 ≡ 0 = omega (arith, e, h) in
-    let k = many_nothing z f.2 in
-    let j = many_nothing w g.2 in
-    (g.1 ∙ ap (λ v. xs ++ v) j.0 ∙ append_nil xs, k.1)
-  where
-    append_nil : {X : Type 0} (xs : List X) → xs ++ [] ≡ xs
-    append_nil [] = refl
-    append_nil (x ∷ xs) = ap (λ v. x ∷ v) (append_nil xs)
 
 pub lex_once : {text : List ℕ} {l m : List Lex} {d e : Option ℕ} → LexText text l d → LexText text m e → (m ≡ l) × (e ≡ d)
 lex_once a b =
@@ -149,10 +128,6 @@ states_stop text l d Memory (Err y) h a g s = subst (λ v. FileAnswers text (Err
 states_stop text l d (BadLexeme place) (Err y) h a g s = absurd s
 states_stop text l d (BadWeight place) (Err y) h a g s = absurd s
 states_stop text l d (TooDeep place) (Err y) h a g s = absurd s
-
-pub empty_is : {A : Type 0} (xs : List A) → nat_eq (length xs) 0 ≡ true → xs ≡ []
-empty_is [] h = refl
-empty_is (x ∷ xs) h = absurd (let e : length (x ∷ xs) ≡ 0 = eqb-true _ _ h in omega (arith, e))
 
 pub full_map : {A B : Type 0} (f : A → B) (xs : List A) → nat_eq (length xs) 0 ≡ false → map f xs ≡ [] → ⊥
 full_map f xs h e = let g : length xs ≡ 0 = sym (length-map xs f) ∙ ap length e in absurd (eqb-false _ _ h g)

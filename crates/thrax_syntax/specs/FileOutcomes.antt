@@ -3,7 +3,7 @@ use Rattle.std.specs.Prelude.{◌≡◌, ◌+◌, ℕ, List, [], length, map, No
 use Rattle.std.specs.declared.alloc.Global.{Global}
 use Rattle.thrax_lexer.specs.Lexemes.{Lex}
 use Rattle.thrax_lexer.specs.Reading.{LexText}
-use Rattle.thrax_lexer.specs.Steps.{Longest}
+use Rattle.text_forms.specs.Steps.{Longest}
 use Rattle.thrax_syntax.specs.Files.{FirstFault}
 use Rattle.thrax_syntax.specs.Statements.{BodyTerm, Stated}
 use Rattle.thrax_syntax.specs.Trees.{StatementTerm, file_term, local_term, statement_term, tree_term}

@@ -2,7 +2,7 @@
 use Rattle.std.specs.Prelude.{ℕ, ◌≡◌, ◌+◌, List, [], length, Some, None, Result, Ok, Err}
 use Rattle.thrax_lexer.specs.Lexemes.{Lex}
 use Rattle.thrax_lexer.specs.Reading.{LexText, LexFails}
-use Rattle.thrax_lexer.specs.Steps.{Many, Longest}
+use Rattle.text_forms.specs.Steps.{Many, Longest}
 use Rattle.thrax_lexer.specs.declared.reading.LexFault.{LexFault}
 use Rattle.thrax_lexer.specs.declared.reading.LexFault.TheVariants as lexing
 use Rattle.thrax_syntax.specs.Statements.{Stated}

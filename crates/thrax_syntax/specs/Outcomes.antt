@@ -1,6 +1,6 @@
 -- What the parts of the reader answer: what was read is the one that there is, or there is none, or memory ran out.
 use Rattle.std.specs.Prelude.{◌≡◌, ◌≤◌, ℕ, Bool, true, false, List, [], ◌∷◌, map, Result, Ok, Err}
-use Rattle.thrax_lexer.specs.Answers.{Takes}
+use Rattle.text_forms.specs.Answers.{Takes}
 use Rattle.thrax_lexer.specs.Lexemes.{Lex, word, keyword, number, weight, string, quoted, symbol, lex_of}
 use Rattle.thrax_lexer.specs.declared.bytes.Symbol.{Symbol}
 use Rattle.thrax_lexer.specs.declared.bytes.Symbol.TheVariants.{Equals, Semicolon, Comma, Bar, Star, Plus, Question, OpenBrace, CloseBrace, Minus, Colon, At, OpenParen, CloseParen, OpenBracket, CloseBracket, Dot}

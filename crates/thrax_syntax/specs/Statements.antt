@@ -1,7 +1,7 @@
 -- The statements of a grammar file over lexemes, by cases.
 use Rattle.std.specs.Prelude.{ℕ, true, false, List, [], ◌∷◌}
 use Rattle.thrax_lexer.specs.Lexemes.{Lex, word, keyword, quoted, symbol}
-use Rattle.thrax_lexer.specs.Steps.{Many}
+use Rattle.text_forms.specs.Steps.{Many}
 use Rattle.thrax_lexer.specs.declared.bytes.Symbol.TheVariants.{Equals, Semicolon, Comma, OpenBrace, CloseBrace, OpenBracket, CloseBracket}
 use Rattle.thrax_lexer.specs.declared.lexemes.Keyword.TheVariants.{Export, Import, As, Func, Return}
 use Rattle.thrax_syntax.specs.Grammar.{Spells, expr}

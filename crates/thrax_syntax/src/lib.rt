@@ -19,6 +19,3 @@ mod tree;
 pub use fault::ReadFault;
 pub use files::read_file;
 pub use tree::{File, Local, Statement, Tree};
-
-#[cfg(test)]
-mod tests;

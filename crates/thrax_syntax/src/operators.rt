@@ -1,5 +1,5 @@
 ghost use Rattle.std.specs.Prelude.{◌≡◌, ◌<◌, ◌∷◌, IfOk, IfSome, length, map};
-ghost use Rattle.thrax_lexer.specs.Answers.{Next};
+ghost use Rattle.text_forms.specs.Answers.{Next};
 ghost use Rattle.thrax_lexer.specs.Lexemes.{lex_of, symbol};
 ghost use Rattle.thrax_lexer.specs.declared.bytes.Symbol.TheVariants.{OpenBrace};
 ghost use Rattle.thrax_syntax.specs.Grammar.{RepeatAt, called, join, repeated, sign, used};

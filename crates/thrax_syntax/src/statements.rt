@@ -1,5 +1,5 @@
 ghost use Rattle.std.specs.Prelude.{◌≡◌, ◌<◌, ◌∷◌, IfNone, IfOk, IfSome, List, length, map, ℕ};
-ghost use Rattle.thrax_lexer.specs.Answers.{Next};
+ghost use Rattle.text_forms.specs.Answers.{Next};
 ghost use Rattle.thrax_lexer.specs.Lexemes.{Lex, keyword, lex_of, quoted, symbol, word};
 ghost use Rattle.thrax_lexer.specs.declared.bytes.Symbol.TheVariants.{CloseBracket, Semicolon};
 ghost use Rattle.thrax_lexer.specs.declared.lexemes.Keyword.TheVariants.{As, Export, Import};

@@ -1,6 +1,6 @@
 use Rattle.std.proofs.Common.{sym, refl, arith, List, ℕ, [], ◌∷◌, ◌++◌}
 use Rattle.thrax_lexer.specs.Strings.{Label, Closed}
-use Rattle.thrax_lexer.proofs.Chains.{stands_begin, stands_step, stands_end}
+use Rattle.text_forms.proofs.Chains.{stands_begin, stands_step, stands_end}
 use Rattle.thrax_lexer.proofs.Texts.{label_takes, closed_takes, closed_none}
 use Rattle.thrax_lexer.proofs.strings.closed.Goals as goal
 

@@ -1,6 +1,6 @@
 use Rattle.std.proofs.Common.{length, ◌≤◌, List, ℕ}
 use Rattle.thrax_lexer.specs.Strings.{Label}
-use Rattle.thrax_lexer.proofs.Chains.{Stands}
+use Rattle.text_forms.proofs.Chains.{Stands}
 use Rattle.thrax_lexer.proofs.strings.closed.Given as goal
 
 abbrev pub invariant-loop-after : goal.invariant-loop-after

@@ -1,5 +1,5 @@
 use Rattle.std.proofs.Common.{sym}
-use Rattle.thrax_lexer.proofs.Lists.{some_weaker, none_weaker}
+use Rattle.text_forms.proofs.Lists.{some_weaker, none_weaker}
 use Rattle.thrax_lexer.proofs.Texts.{found_plain, found_escape, found_bracket, missed_escape, missed_bracket}
 use Rattle.thrax_lexer.proofs.strings.label.Goals as goal
 

@@ -1,7 +1,7 @@
 use Rattle.std.proofs.Common.{sym, subst, arith, [], ◌∷◌, ◌++◌}
 use Rattle.thrax_lexer.specs.Strings.{Label}
-use Rattle.thrax_lexer.proofs.Chains.{Stands, stands_begin, stands_step, stands_end}
-use Rattle.thrax_lexer.proofs.Lists.{is_full}
+use Rattle.text_forms.proofs.Chains.{Stands, stands_begin, stands_step, stands_end}
+use Rattle.text_forms.proofs.Lists.{is_full}
 use Rattle.thrax_lexer.proofs.Texts.{label_takes, labels_only}
 use Rattle.thrax_lexer.proofs.strings.labels.Goals as goal
 

@@ -1,6 +1,6 @@
 use Rattle.std.proofs.Common.{length, ◌≤◌, ◌+◌, vec_len}
 use Rattle.thrax_lexer.specs.Strings.{Label}
-use Rattle.thrax_lexer.proofs.Chains.{Stands}
+use Rattle.text_forms.proofs.Chains.{Stands}
 use Rattle.thrax_lexer.proofs.strings.labels.Given as goal
 
 abbrev pub invariant-loop-next : goal.invariant-loop-next

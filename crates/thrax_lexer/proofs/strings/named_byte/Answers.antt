@@ -1,5 +1,5 @@
 use Rattle.thrax_lexer.specs.Strings.{by_decimal, by_hexadecimal}
-use Rattle.thrax_lexer.proofs.Lists.{some_weaker}
+use Rattle.text_forms.proofs.Lists.{some_weaker}
 use Rattle.thrax_lexer.proofs.strings.named_byte.Goals as goal
 
 pub returns-in-Some-clause-found : goal.returns-in-Some-clause-found

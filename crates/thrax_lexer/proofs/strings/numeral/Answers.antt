@@ -1,8 +1,8 @@
 use Rattle.std.proofs.Common.{sym, ap, arith, length}
 use Rattle.std.proofs.lemmas.Bool.{eqb-true}
-use Rattle.thrax_lexer.specs.Bytes.{is_of}
-use Rattle.thrax_lexer.proofs.Lists.{is_full}
-use Rattle.thrax_lexer.proofs.Runs.{run_all}
+use Rattle.text_forms.specs.Bytes.{is_of}
+use Rattle.text_forms.proofs.Lists.{is_full}
+use Rattle.text_forms.proofs.Runs.{run_all}
 use Rattle.thrax_lexer.proofs.strings.numeral.Goals as goal
 use Rattle.thrax_lexer.proofs.strings.numeral.Goals.{then-not-is_empty-via-then-not-is_empty, then-not-is_empty-via-else-not-is_empty+then-is_empty, then-not-is_empty-via-else-not-is_empty+else-is_empty+then-run-most}
 

@@ -1,6 +1,6 @@
 use Rattle.std.proofs.Common.{◌≡◌, ◌+◌, ◌*◌, map, drop, Some}
 use Rattle.norm_base.specs.Files.{Files}
-use Rattle.thrax_meaning.specs.Answers.{shared_of}
+use Rattle.checked_expressions.specs.Answers.{shared_of}
 use Rattle.thrax_meaning.specs.Tables.{scope_at, locals_at, place_weight, body_size}
 use Rattle.thrax_meaning.proofs.Fronts.{front, each}
 use Rattle.thrax_syntax.specs.declared.tree.Tree.{size-Tree}

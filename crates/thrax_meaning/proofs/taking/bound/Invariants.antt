@@ -1,5 +1,5 @@
 use Rattle.std.proofs.Common.{◌≡◌, map}
-use Rattle.thrax_meaning.specs.Answers.{shared_of}
+use Rattle.checked_expressions.specs.Answers.{shared_of}
 use Rattle.thrax_meaning.specs.Meaning.{bind}
 use Rattle.thrax_meaning.specs.Tables.{local_of}
 use Rattle.thrax_meaning.proofs.taking.bound.Given as goal

@@ -2,7 +2,7 @@ use Rattle.std.proofs.Common.{map, subst, []}
 use Rattle.std.specs.Prelude.{Err}
 use Rattle.thrax_lexer.specs.Lexemes.{lex_of}
 use Rattle.thrax_lexer.specs.Reading.{LexText}
-use Rattle.thrax_lexer.specs.Steps.{Longest}
+use Rattle.text_forms.specs.Steps.{Longest}
 use Rattle.thrax_syntax.specs.FileOutcomes.{StatesAs}
 use Rattle.thrax_syntax.specs.Statements.{Stated}
 use Rattle.thrax_syntax.specs.Trees.{statement_term}

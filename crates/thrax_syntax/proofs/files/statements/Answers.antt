@@ -1,11 +1,12 @@
 use Rattle.std.proofs.Common.{◌≡◌, ◌∙◌, sym, ap, subst, arith, map, length, [], ◌∷◌}
 use Rattle.std.proofs.lemmas.List.{map-append, length-map}
 use Rattle.thrax_lexer.specs.Lexemes.{lex_of}
-use Rattle.thrax_lexer.specs.Steps.{Longest}
-use Rattle.thrax_lexer.proofs.Chains.{Stands, stands_begin, stands_step, stands_end}
+use Rattle.text_forms.specs.Steps.{Longest}
+use Rattle.text_forms.proofs.Chains.{Stands, stands_begin, stands_step, stands_end}
 use Rattle.thrax_syntax.specs.Statements.{Stated}
 use Rattle.thrax_syntax.specs.Trees.{statement_term}
-use Rattle.thrax_syntax.proofs.Whole.{empty_is, full_map}
+use Rattle.text_forms.proofs.Lists.{is_empty}
+use Rattle.thrax_syntax.proofs.Whole.{full_map}
 use Rattle.thrax_syntax.proofs.files.statements.Goals as goal
 
 pub loop-found-init : goal.loop-found-init
@@ -25,7 +26,7 @@ loop-found-preserved c =
     )
 
 pub returns-then-is_empty : goal.returns-then-is_empty
-returns-then-is_empty c = subst (λ v. Longest Stated (map lex_of c.args.lexemes.now) (map statement_term c.loop-found.found.items) (map lex_of v)) (empty_is c.loop-found.rest.now (sym c.if-is_empty.ensures)) (stands_end Stated (map lex_of c.args.lexemes.now) (map statement_term c.loop-found.found.items) (map lex_of c.loop-found.rest.now) (rw c.in_default.is at c.in_ok-statement.ensures.exact) c.loop-found.invariant.1)
+returns-then-is_empty c = subst (λ v. Longest Stated (map lex_of c.args.lexemes.now) (map statement_term c.loop-found.found.items) (map lex_of v)) (is_empty c.loop-found.rest.now (sym c.if-is_empty.ensures)) (stands_end Stated (map lex_of c.args.lexemes.now) (map statement_term c.loop-found.found.items) (map lex_of c.loop-found.rest.now) (rw c.in_default.is at c.in_ok-statement.ensures.exact) c.loop-found.invariant.1)
 
 pub returns : goal.returns
 returns c = (

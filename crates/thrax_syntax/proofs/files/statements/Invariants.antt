@@ -1,6 +1,6 @@
 use Rattle.std.proofs.Common.{◌≤◌, ◌+◌, map, length, vec_len}
 use Rattle.thrax_lexer.specs.Lexemes.{lex_of}
-use Rattle.thrax_lexer.proofs.Chains.{Stands}
+use Rattle.text_forms.proofs.Chains.{Stands}
 use Rattle.thrax_syntax.specs.Statements.{Stated}
 use Rattle.thrax_syntax.specs.Trees.{statement_term}
 use Rattle.thrax_syntax.proofs.files.statements.Given as goal

@@ -4,7 +4,8 @@ use Rattle.thrax_lexer.specs.declared.bytes.Symbol.TheVariants.{Semicolon, Close
 use Rattle.thrax_syntax.specs.Grammar.{Spells, expr}
 use Rattle.thrax_syntax.specs.declared.stop.Stop.TheVariants.{Syntax}
 use Rattle.thrax_syntax.proofs.Stating.{body_of, body_then}
-use Rattle.thrax_syntax.proofs.Taking.{then_takes, then_misses, takes_before, takes_stuck}
+use Rattle.text_forms.proofs.Taking.{then_takes, takes_before}
+use Rattle.thrax_syntax.proofs.Taking.{then_misses, takes_stuck}
 use Rattle.thrax_syntax.proofs.statements.body.Goals as goal
 
 pub returns-in-Some-clause-exact : goal.returns-in-Some-clause-exact

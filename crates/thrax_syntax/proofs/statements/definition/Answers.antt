@@ -2,7 +2,7 @@ use Rattle.std.proofs.Common.{◌∙◌, sym, ap, map, ◌∷◌}
 use Rattle.thrax_lexer.specs.Lexemes.{lex_of, symbol, word}
 use Rattle.thrax_lexer.specs.declared.bytes.Symbol.TheVariants.{Equals}
 use Rattle.thrax_syntax.proofs.Stating.{local_of, defined_made}
-use Rattle.thrax_syntax.proofs.Taking.{made_takes}
+use Rattle.text_forms.proofs.Taking.{made_takes}
 use Rattle.thrax_syntax.proofs.statements.definition.Goals as goal
 
 pub returns-clause-exact : goal.returns-clause-exact

@@ -2,7 +2,8 @@ use Rattle.std.proofs.Common.{sym, true, map}
 use Rattle.thrax_lexer.specs.Lexemes.{lex_of}
 use Rattle.thrax_syntax.specs.Trees.{statement_term}
 use Rattle.thrax_syntax.proofs.Stating.{defined_as, export_func_same, export_made}
-use Rattle.thrax_syntax.proofs.Taking.{made_takes, same_gives, takes_as}
+use Rattle.text_forms.proofs.Taking.{made_takes, takes_as}
+use Rattle.thrax_syntax.proofs.Taking.{same_gives}
 use Rattle.thrax_syntax.proofs.statements.exported.Goals as goal
 
 pub returns-in-Some-clause-exact : goal.returns-in-Some-clause-exact

@@ -3,7 +3,7 @@ use Rattle.thrax_lexer.specs.Lexemes.{lex_of, symbol, word}
 use Rattle.thrax_lexer.specs.declared.bytes.Symbol.TheVariants.{OpenBracket}
 use Rattle.thrax_syntax.specs.Statements.{Body}
 use Rattle.thrax_syntax.proofs.Stating.{func_of, function_then}
-use Rattle.thrax_syntax.proofs.Taking.{then_takes}
+use Rattle.text_forms.proofs.Taking.{then_takes}
 use Rattle.thrax_syntax.proofs.statements.function.Goals as goal
 
 pub returns-clause-exact : goal.returns-clause-exact

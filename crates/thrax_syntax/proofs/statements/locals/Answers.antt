@@ -1,7 +1,7 @@
 use Rattle.std.proofs.Common.{◌∙◌, sym, ap, subst, arith, map, [], ◌∷◌}
 use Rattle.std.proofs.lemmas.List.{map-append}
 use Rattle.thrax_lexer.specs.Lexemes.{lex_of}
-use Rattle.thrax_lexer.proofs.Chains.{Stands, stands_begin, stands_step, stands_end}
+use Rattle.text_forms.proofs.Chains.{Stands, stands_begin, stands_step, stands_end}
 use Rattle.thrax_syntax.specs.Statements.{Defined}
 use Rattle.thrax_syntax.specs.Trees.{local_term}
 use Rattle.thrax_syntax.proofs.Stating.{locals_take, locals_stuck}

@@ -1,7 +1,7 @@
 use Rattle.std.proofs.Common.{◌∙◌, sym, ap, arith, append_assoc, map, [], ◌∷◌, ◌++◌}
 use Rattle.thrax_lexer.specs.Lexemes.{lex_of, symbol, word}
 use Rattle.thrax_lexer.specs.declared.bytes.Symbol.TheVariants.{Comma}
-use Rattle.thrax_lexer.proofs.Chains.{nothing_after, stands_begin, stands_step, stands_end}
+use Rattle.text_forms.proofs.Chains.{nothing_after, stands_begin, stands_step, stands_end}
 use Rattle.thrax_syntax.specs.Statements.{NextParam}
 use Rattle.thrax_syntax.proofs.Parts.{first_pushed}
 use Rattle.thrax_syntax.proofs.Stating.{param_takes, no_param, params_take, params_stuck}

@@ -1,6 +1,6 @@
 use Rattle.std.proofs.Common.{◌≡◌, ◌<◌, ◌++◌, List, ℕ, map, length}
 use Rattle.thrax_lexer.specs.Lexemes.{lex_of}
-use Rattle.thrax_lexer.proofs.Chains.{Stands}
+use Rattle.text_forms.proofs.Chains.{Stands}
 use Rattle.thrax_syntax.specs.Statements.{NextParam}
 use Rattle.thrax_syntax.proofs.statements.some_params.Given as goal
 

@@ -1,4 +1,4 @@
-use Rattle.thrax_link.proofs.Soundness.{is_sound}
+use Rattle.checked_expressions.proofs.Soundness.{is_sound}
 use Rattle.thrax_link.proofs.grammar.Grammar.rule.Goals as goal
 
 pub returns-then-eq-clause-sound : goal.returns-then-eq-clause-sound

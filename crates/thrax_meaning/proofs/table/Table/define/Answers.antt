@@ -11,4 +11,4 @@ invariant_of-self-2 c =
     let all : c.push.new.self.items ≡ es ++ entry ∷ [] = c.in_ok-push.ensures.items ∙ ap (λ v. v ++ entry ∷ []) c.reserve.ensures.items in
     let names : map (λ e. e.name) c.push.new.self.items ≡ map (λ e. e.name) es ++ c.args.name ∷ [] = ap (map (λ e. e.name)) all ∙ map_push (λ e. e.name) es entry in
     let long : c.len-at.result ≡ length es = search rules in
-    subst (IsIndex c.set_place.new.places) (sym names) (c.in_ok-set_place.ensures.ok (map (λ e. e.name) es) (long ∙ sym (length-map es (λ e. e.name))) c.self.invariant)
+    subst (IsIndex c.set.new.self.places) (sym names) (c.in_ok-set.ensures.ok (map (λ e. e.name) es) (long ∙ sym (length-map es (λ e. e.name))) c.self.invariant)

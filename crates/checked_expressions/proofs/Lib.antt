@@ -1,0 +1,3 @@
+pub mod KindRules
+pub mod ListRules
+pub mod Soundness

@@ -1,0 +1,10 @@
+use Rattle.std.proofs.Common.{◌≡◌, map, length}
+use Rattle.weighted_relations.specs.Expressions.{members, are_acceptors}
+use Rattle.checked_expressions.specs.Answers.{shared_of}
+use Rattle.checked_expressions.proofs.lists.all_accept.Given as goal
+
+abbrev pub invariant-loop-rest : goal.invariant-loop-rest
+invariant-loop-rest l = are_acceptors (members (map shared_of l.rest)) ≡ are_acceptors (members (map shared_of l.values))
+
+abbrev pub decreases-loop-rest : goal.decreases-loop-rest
+decreases-loop-rest l = length l.rest

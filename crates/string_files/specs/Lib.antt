@@ -1,0 +1,4 @@
+pub mod Fields
+pub mod StringFiles
+pub mod Entries
+pub mod Lexicons

@@ -1,7 +1,0 @@
-use Rattle.std.proofs.Common.{◌≡◌, map, ◌++◌}
-use Rattle.std.specs.Prelude.{replicate}
-use Rattle.thrax_meaning.specs.Answers.{shared_of}
-use Rattle.thrax_meaning.proofs.lists.append.Given as goal
-
-abbrev pub invariant-loop : goal.invariant-loop
-invariant-loop l = map shared_of l.parts.items ≡ map shared_of l.initial.parts.items ++ replicate l.counter (shared_of l.value)

@@ -1,9 +1,0 @@
-use Rattle.std.proofs.Common.{◌≡◌, length}
-use Rattle.thrax_meaning.specs.Sound.{are_labels}
-use Rattle.thrax_meaning.proofs.nodes.are_labels.Given as goal
-
-abbrev pub invariant-loop-rest : goal.invariant-loop-rest
-invariant-loop-rest l = are_labels l.rest ≡ are_labels l.labels
-
-abbrev pub decreases-loop-rest : goal.decreases-loop-rest
-decreases-loop-rest l = length l.rest
