@@ -3,7 +3,7 @@ use Rattle.std.proofs.Common.{◌≡◌, ℕ, zero, suc, ◌+◌, ◌<◌, ◌�
 use Rattle.std.specs.Prelude.{slice_get}
 use Rattle.std.proofs.lemmas.Bool.{cases_lt}
 use Rattle.std.proofs.lemmas.List.{get_or_append_left, get_or_push, get_or_past}
-use Rattle.std.proofs.lemmas.Option.{slice_get_within, slice_get-get_or}
+use Rattle.std.proofs.lemmas.Option.{get_or_from_slice_get, slice_get_within, slice_get-get_or}
 use Rattle.weighted_relations.specs.declared.Arc.{Arc}
 use Rattle.weighted_relations.specs.Relations.{Same}
 use Rattle.weighted_relations.specs.Graphs.{stop, step, label}
@@ -11,9 +11,9 @@ use Rattle.weighted_relations.specs.Machines.{Machine, Path, IsArc, From, Reads,
 use Rattle.fst_core.specs.Top.{top_of}
 use Rattle.fst_core.proofs.Tops.{arc_below, end_below, top_under}
 use Rattle.acceptor_ops.specs.Tables.{Table, run_from, Accepts, Except, IsTotal}
-use Rattle.acceptor_ops.specs.Numbered.{Keeps, Numbers}
+use Rattle.state_table.specs.Numbers.{Keeps, Numbers}
 use Rattle.acceptor_ops.specs.Beside.{Pair, no_pair, moved, IsPair, ArePairs, Beside, RowBeside, Paired, final_beside}
-use Rattle.acceptor_ops.proofs.Numbering.{keeps_refl, keeps_trans}
+use Rattle.state_table.proofs.Numbering.{keeps_refl, keeps_trans, keeps_more, kept_at, numbers_keeps, numbers_within, stored_at, fresh_at}
 use Rattle.acceptor_ops.proofs.Flipped.{step_within}
 use Rattle.acceptor_ops.proofs.Determined.{path_labels}
 
@@ -24,40 +24,44 @@ moved_within t total q (suc n) l h = step_within t total q (suc n) l (omega arit
 
 pub paired_none : (m : Machine) (t : Table) (pairs : List Pair) (q : ℕ) (row : List Arc) → ArePairs m t pairs → Paired m t pairs pairs q 0 row []
 paired_none m t pairs q row are = record {
-  keeps = keeps_refl no_pair pairs;
+  keeps = keeps_refl pairs;
   pairs = are;
   beside = record { count = refl; arcs = λ i a l h. absurd (omega (arith, l)) };
 }
 
-pub more_pairs : (m : Machine) (t : Table) (old new : List Pair) (p : Pair) (number : ℕ) → ArePairs m t old → IsPair m t p → Numbers no_pair old new p number → ArePairs m t new
+pub more_pairs : (m : Machine) (t : Table) (old new : List Pair) (p : Pair) (number : ℕ) → ArePairs m t old → IsPair m t p → Numbers old new p number → ArePairs m t new
 more_pairs m t old new p number had is add k l = elim (cases_lt k (length old)) [
-  | inl low ↦ subst (IsPair m t) (sym (add.keeps.kept k low)) (had k low)
-  | inr high ↦ subst (IsPair m t) (sym (add.only k high l)) is
+  | inl low ↦ subst (IsPair m t) (sym (kept_at no_pair (numbers_keeps add) k low)) (had k low)
+  | inr high ↦ subst (IsPair m t) (sym (fresh_at add no_pair k high l)) is
 ]
 
-beside_kept : (t : Table) (old new : List Pair) (q : ℕ) (a b : Arc) → Keeps no_pair old new → Beside t old q a b → Beside t new q a b
+-- the pair of a number is one of both
+pub pair_at : (m : Machine) (t : Table) (pairs : List Pair) (k : ℕ) (p : Pair) → ArePairs m t pairs → slice_get pairs k ≡ Some p → IsPair m t p
+pair_at m t pairs k p are h = subst (IsPair m t) (get_or_from_slice_get pairs k p no_pair h) (are k (slice_get_within pairs k p h))
+
+beside_kept : (t : Table) (old new : List Pair) (q : ℕ) (a b : Arc) → Keeps old new → Beside t old q a b → Beside t new q a b
 beside_kept t old new q a b keeps had =
-    let more : length old ≤ length new = keeps.more in
+    let more : length old ≤ length new = keeps_more keeps in
     record {
       input = had.input;
       output = had.output;
       weight = had.weight;
       within = let l : b.next < length old = had.within in omega arith;
-      next = keeps.kept b.next had.within ∙ had.next;
+      next = kept_at no_pair keeps b.next had.within ∙ had.next;
     }
 
-pub row_kept : (t : Table) (old new : List Pair) (q n : ℕ) (row made : List Arc) → Keeps no_pair old new → RowBeside t old q n row made → RowBeside t new q n row made
+pub row_kept : (t : Table) (old new : List Pair) (q n : ℕ) (row made : List Arc) → Keeps old new → RowBeside t old q n row made → RowBeside t new q n row made
 row_kept t old new q n row made keeps had = record {
   count = had.count;
   arcs = λ i a l h. let r = had.arcs i a l h in (r.0, r.1, beside_kept t old new q a r.0 keeps r.2);
 }
 
-pub paired_more : (m : Machine) (t : Table) (old mid new : List Pair) (q n : ℕ) (row made : List Arc) (a b : Arc) (number : ℕ) → Paired m t old mid q n row made → slice_get row n ≡ Some a → IsPair m t (a.next, moved t q a.input) → Numbers no_pair mid new (a.next, moved t q a.input) number → b ≡ record { input = a.input; output = a.output; weight = a.weight; next = number } → Paired m t old new q (n + 1) row (made ++ b ∷ [])
+pub paired_more : (m : Machine) (t : Table) (old mid new : List Pair) (q n : ℕ) (row made : List Arc) (a b : Arc) (number : ℕ) → Paired m t old mid q n row made → slice_get row n ≡ Some a → IsPair m t (a.next, moved t q a.input) → Numbers mid new (a.next, moved t q a.input) number → b ≡ record { input = a.input; output = a.output; weight = a.weight; next = number } → Paired m t old new q (n + 1) row (made ++ b ∷ [])
 paired_more m t old mid new q n row made a b number had there is add e =
-    let kept : RowBeside t new q n row made = row_kept t mid new q n row made add.keeps had.beside in
+    let kept : RowBeside t new q n row made = row_kept t mid new q n row made (numbers_keeps add) had.beside in
     let count : length made ≡ n = had.beside.count in
     record {
-      keeps = keeps_trans no_pair old mid new had.keeps add.keeps;
+      keeps = keeps_trans had.keeps (numbers_keeps add);
       pairs = more_pairs m t mid new (a.next, moved t q a.input) number had.pairs is add;
       beside = record {
         count = length-append made (b ∷ []) ∙ ap (λ v. v + 1) count;
@@ -72,7 +76,7 @@ paired_more m t old mid new q n row made a b number had there is add e =
               let same : c ≡ a = one (slice_get row n) c a (ap (slice_get row) (sym f) ∙ h) there in (
                 b,
                 ap (slice_get (made ++ b ∷ [])) g ∙ last made b,
-                subst (λ z. Beside t new q z b) (sym same) (subst (Beside t new q a) (sym e) (record { input = refl; output = refl; weight = refl; within = add.within; next = add.is })),
+                subst (λ z. Beside t new q z b) (sym same) (subst (Beside t new q a) (sym e) (record { input = refl; output = refl; weight = refl; within = numbers_within add; next = stored_at add no_pair })),
               )
         ];
       };
@@ -100,13 +104,13 @@ pub record Producing (m : Machine) (t : Table) (from : ℕ) (pairs : List Pair) 
   pub rows : (k : ℕ) → k < length arcs → RowBeside t pairs (get_or pairs k no_pair).1 (length (get_or m.arcs (get_or pairs k no_pair).0 [])) (get_or m.arcs (get_or pairs k no_pair).0 []) (get_or arcs k [])
   pub ends : (k : ℕ) → k < length arcs → get_or finals k None ≡ final_beside (get_or t.accepting (get_or pairs k no_pair).1 false) (final_of m.finals (get_or pairs k no_pair).0)
 
-pub producing_none : (m : Machine) (t : Table) (from : ℕ) (pairs : List Pair) → WellFormed m → IsTotal t → Numbers no_pair [] pairs (m.start, t.start) from → Producing m t from pairs [] []
+pub producing_none : (m : Machine) (t : Table) (from : ℕ) (pairs : List Pair) → WellFormed m → IsTotal t → Numbers [] pairs (m.start, t.start) from → Producing m t from pairs [] []
 producing_none m t from pairs sound total add = record {
   are = more_pairs m t [] pairs (m.start, t.start) from (λ k l. absurd (omega (arith, l))) (record { first = sound.start; second = total.start }) add;
   count = refl;
   more = omega arith;
-  start = add.within;
-  begins = add.is;
+  start = numbers_within add;
+  begins = stored_at add no_pair;
   rows = λ k l. absurd (omega (arith, l));
   ends = λ k l. absurd (omega (arith, l));
 }
@@ -123,7 +127,7 @@ pub producing_more : (m : Machine) (t : Table) (from k : ℕ) (pairs new : List 
     → Producing m t from new (arcs ++ row ∷ []) (finals ++ last ∷ [])
 unfolding RowAt EndAt
 producing_more m t from k pairs new arcs finals p row last had e l at add end =
-    let more : length pairs ≤ length new = add.keeps.more in
+    let more : length pairs ≤ length new = keeps_more add.keeps in
     let start : from < length pairs = had.start in
     let even : length finals ≡ length arcs = had.count in
     let n : length (arcs ++ row ∷ []) ≡ length arcs + 1 = length-append arcs (row ∷ []) in
@@ -133,29 +137,29 @@ producing_more m t from k pairs new arcs finals p row last had e l at add end =
       count = omega arith;
       more = omega arith;
       start = omega arith;
-      begins = add.keeps.kept from start ∙ had.begins;
+      begins = kept_at no_pair add.keeps from start ∙ had.begins;
       rows = λ j i. elim (cases_lt j (length arcs)) [
         | inl low ↦
             let w : j < length pairs = omega arith in
-            subst (λ v. RowAt m t new v (get_or (arcs ++ row ∷ []) j [])) (sym (add.keeps.kept j w))
+            subst (λ v. RowAt m t new v (get_or (arcs ++ row ∷ []) j [])) (sym (kept_at no_pair add.keeps j w))
             (subst (RowAt m t new (get_or pairs j no_pair)) (sym (get_or_append_left arcs (row ∷ []) [] j low))
             (row_kept t pairs new _ _ _ _ add.keeps (had.rows j low)))
         | inr high ↦
             let q : length arcs ≡ j = omega arith in
             let r : k ≡ j = omega arith in
-            subst (λ v. RowAt m t new v (get_or (arcs ++ row ∷ []) j [])) (at ∙ ap (λ v. get_or pairs v no_pair) r ∙ sym (add.keeps.kept j (omega arith)))
+            subst (λ v. RowAt m t new v (get_or (arcs ++ row ∷ []) j [])) (at ∙ ap (λ v. get_or pairs v no_pair) r ∙ sym (kept_at no_pair add.keeps j (omega arith)))
             (subst (RowAt m t new p) (sym (get_or_push arcs row [] j q)) add.beside)
       ];
       ends = λ j i. elim (cases_lt j (length arcs)) [
         | inl low ↦
             let w : j < length pairs = omega arith in
             let u : j < length finals = omega arith in
-            subst (λ v. EndAt m t v (get_or (finals ++ last ∷ []) j None)) (sym (add.keeps.kept j w))
+            subst (λ v. EndAt m t v (get_or (finals ++ last ∷ []) j None)) (sym (kept_at no_pair add.keeps j w))
             (subst (EndAt m t (get_or pairs j no_pair)) (sym (get_or_append_left finals (last ∷ []) None j u)) (had.ends j low))
         | inr high ↦
             let q : length finals ≡ j = omega arith in
             let r : k ≡ j = omega arith in
-            subst (λ v. EndAt m t v (get_or (finals ++ last ∷ []) j None)) (at ∙ ap (λ v. get_or pairs v no_pair) r ∙ sym (add.keeps.kept j (omega arith)))
+            subst (λ v. EndAt m t v (get_or (finals ++ last ∷ []) j None)) (at ∙ ap (λ v. get_or pairs v no_pair) r ∙ sym (kept_at no_pair add.keeps j (omega arith)))
             (subst (EndAt m t p) (sym (get_or_push finals last None j q)) end)
       ];
     }

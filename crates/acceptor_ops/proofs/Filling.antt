@@ -131,10 +131,10 @@ element_added lists c t v w l e f =
     map-set (λ (v : Vec ℕ Global). v.items) lists c w ∙ ap (set (map (λ (v : Vec ℕ Global). v.items) lists) c) (f ∙ ap (λ r. r ++ t ∷ []) row)
 
 -- what stands in a list after one more element
-element_there : (lists : List (List ℕ)) (c t : ℕ) → c < length lists → Contains (get_or (with_element lists c t) c []) t
+pub element_there : (lists : List (List ℕ)) (c t : ℕ) → c < length lists → Contains (get_or (with_element lists c t) c []) t
 element_there lists c t l = subst (λ r. Contains r t) (sym (get_or-set_same lists c (get_or lists c [] ++ t ∷ []) [] l)) (Contains-push (get_or lists c []) t)
 
-element_kept : (lists : List (List ℕ)) (c t d u : ℕ) → c < length lists → Contains (get_or lists d []) u → Contains (get_or (with_element lists c t) d []) u
+pub element_kept : (lists : List (List ℕ)) (c t d u : ℕ) → c < length lists → Contains (get_or lists d []) u → Contains (get_or (with_element lists c t) d []) u
 element_kept lists c t d u l h = elim (cases_eq d c) [
   | inl e ↦
       subst (λ n. Contains (get_or (with_element lists c t) n []) u) (sym e)
@@ -143,7 +143,7 @@ element_kept lists c t d u l h = elim (cases_eq d c) [
   | inr ne ↦ subst (λ r. Contains r u) (sym (get_or-set_other lists c d (get_or lists c [] ++ t ∷ []) [] ne)) h
 ]
 
-element_only : (lists : List (List ℕ)) (c t d u : ℕ) → c < length lists → Contains (get_or (with_element lists c t) d []) u → Contains (get_or lists d []) u ⊎ ((c ≡ d) × (t ≡ u))
+pub element_only : (lists : List (List ℕ)) (c t d u : ℕ) → c < length lists → Contains (get_or (with_element lists c t) d []) u → Contains (get_or lists d []) u ⊎ ((c ≡ d) × (t ≡ u))
 element_only lists c t d u l h = elim (cases_eq d c) [
   | inl e ↦
       let there : Contains (get_or lists c [] ++ t ∷ []) u = subst (λ r. Contains r u) (ap (λ n. get_or (with_element lists c t) n []) e ∙ get_or-set_same lists c (get_or lists c [] ++ t ∷ []) [] l) h in

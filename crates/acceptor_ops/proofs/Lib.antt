@@ -1,4 +1,3 @@
-pub mod Numbering
 pub mod Labels
 pub mod Inputs
 pub mod Filling

@@ -3,7 +3,7 @@ use Rattle.std.specs.Prelude.{◌≡◌, ◌<◌, ℕ, zero, suc, List, length, 
 use Rattle.weighted_relations.specs.declared.Arc.{Arc}
 use Rattle.weighted_relations.specs.Machines.{Machine}
 use Rattle.acceptor_ops.specs.Tables.{Table, step_of}
-use Rattle.acceptor_ops.specs.Numbered.{Keeps}
+use Rattle.state_table.specs.Numbers.{Keeps}
 
 -- a state of a transducer beside a state of an automaton
 abbrev pub Pair : Type 0
@@ -40,7 +40,7 @@ pub record RowBeside (t : Table) (ps : List Pair) (q n : ℕ) (old new : List Ar
 
 -- the pairs new have those of old, and the first n arcs of the row
 pub record Paired (m : Machine) (t : Table) (old new : List Pair) (q n : ℕ) (row made : List Arc) : Type 0 where
-  pub keeps : Keeps no_pair old new
+  pub keeps : Keeps old new
   pub pairs : ArePairs m t new
   pub beside : RowBeside t new q n row made
 

@@ -1,21 +1,10 @@
--- Sets that are numbered by their first arrival.
-use Rattle.std.specs.Prelude.{◌≡◌, ◌≤◌, ◌<◌, ℕ, List, [], ◌∷◌, ◌++◌, length, get_or, Bool}
+-- Sets of states, by number, and the rows of an automaton of them.
+use Rattle.std.specs.Prelude.{◌≡◌, ◌<◌, ℕ, List, [], ◌∷◌, ◌++◌, length, get_or, Bool}
 use Rattle.weighted_relations.specs.Relations.{IsLabel}
+use Rattle.state_table.specs.Numbers.{Keeps}
 use Rattle.weighted_relations.specs.Machines.{Machine}
 use Rattle.acceptor_ops.specs.Tables.{class_of}
 use Rattle.acceptor_ops.specs.StateSets.{IsKernel, Steps}
-
--- what was numbered keeps its number
-pub record Keeps {A : Type 0} (none : A) (old new : List A) : Type 0 where
-  pub more : length old ≤ length new
-  pub kept : (k : ℕ) → k < length old → get_or new k none ≡ get_or old k none
-
--- what was found has this number
-pub record Numbers {A : Type 0} (none : A) (old new : List A) (found : A) (number : ℕ) : Type 0 where
-  pub keeps : Keeps none old new
-  pub within : number < length new
-  pub is : get_or new number none ≡ found
-  pub only : (k : ℕ) → length old ≤ k → k < length new → get_or new k none ≡ found
 
 -- each numbered set is a kernel
 abbrev pub AllKernels : Machine → List (List ℕ) → Type 0
@@ -29,7 +18,7 @@ pub record RowOf (m : Machine) (classes : List ℕ) (sets : List (List ℕ)) (k 
 
 -- the sets new have those of old, and a row from the set of number k
 pub record RowAdded (m : Machine) (classes : List ℕ) (old new : List (List ℕ)) (k n : ℕ) (row : List ℕ) : Type 0 where
-  pub keeps : Keeps [] old new
+  pub keeps : Keeps old new
   pub kernels : AllKernels m new
   pub made : RowOf m classes new k n row
 

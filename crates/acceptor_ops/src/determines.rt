@@ -9,9 +9,9 @@ ghost use Rattle.acceptor_ops.specs.Tables.{Accepts};
 
 use crate::classes::Classes;
 use crate::dfa::{Dfa, Rows};
-use crate::kernels::{Buckets, any_final, kernel};
-use crate::subsets::Subsets;
+use crate::kernels::{any_final, kernel, targets};
 use fst_core::{Fst, Search};
+use state_table::{StateSet, StateTable};
 use std::alloc::{AllocError, Global};
 
 /// An automaton that accepts the inputs of a transducer: of an acceptor, its strings.
@@ -26,12 +26,12 @@ pub fn determinise(alloc: Global, a: &Fst) -> Result<Dfa, AllocError>
 {
     let classes = Classes::new(alloc, a)?;
     let mut search = Search::new(alloc, a.len())?;
-    let mut sets = Subsets::new(alloc);
+    let mut sets = StateTable::new(alloc);
     let start = sets.number(kernel(alloc, a, &[a.start()], &mut search)?)?;
     let mut rows = Rows::new(alloc);
     while rows.len() < sets.len() {
         let k = rows.len();
-        let last = any_final(a, sets.get(k));
+        let last = any_final(a, sets.key(k).states());
         let row = row_of(alloc, a, &classes, &mut search, &mut sets, k)?;
         rows.push(row, last)?;
     }
@@ -53,7 +53,7 @@ fn row_of(
     a: &Fst,
     classes: &Classes,
     search: &mut Search,
-    sets: &mut Subsets,
+    sets: &mut StateTable<StateSet>,
     k: usize,
 ) -> Result<Vec<usize>, AllocError>
     requires sound { WellFormed a.now }
@@ -64,7 +64,7 @@ fn row_of(
     ensures size { OnOk result (search.new.size ≡ search.old.size) }
     ensures row { IfOk result (λ v. RowAdded a.now classes.now.classes sets.old sets.new k classes.now.count v.items) }
 {
-    let buckets = Buckets::of(alloc, a, classes, sets.get(k))?;
+    let buckets = targets(alloc, a, classes, sets.key(k).states())?;
     let mut row = Vec::new(alloc);
     for c in 0..classes.count() {
         let found = kernel(alloc, a, buckets.get(c), search)?;

@@ -5,12 +5,13 @@ ghost use Rattle.std.specs.List.{Contains};
 ghost use Rattle.weighted_relations.specs.declared.Arc.{Arc};
 ghost use Rattle.weighted_relations.specs.Machines.{WellFormed};
 ghost use Rattle.acceptor_ops.specs.Alike.{AreClasses};
-ghost use Rattle.acceptor_ops.specs.StateSets.{IsActive, AnyFinal, KernelOf, HasLabel, Filled, FitsClasses, RowFilled, with_element};
+ghost use Rattle.acceptor_ops.specs.StateSets.{IsActive, AnyFinal, KernelOf, HasLabel, Filled, FitsClasses, RowFilled};
 
+use crate::buckets::Buckets;
 use crate::classes::Classes;
 use fst_core::{Arc, Follow, Fst, Search};
+use state_table::StateSet;
 use std::alloc::{AllocError, Global};
-use std::marker::Model;
 
 /// Whether one of the states is final.
 pub(crate) fn any_final(a: &Fst, set: &[usize]) -> bool
@@ -71,11 +72,11 @@ pub(crate) fn kernel(
     a: &Fst,
     seeds: &[usize],
     search: &mut Search,
-) -> Result<Vec<usize>, AllocError>
+) -> Result<StateSet, AllocError>
     requires size { search.old.size ≡ length a.now.arcs }
     requires within { (s : ℕ) → Contains seeds.now s → s < length a.now.arcs }
     ensures size { OnOk result (search.new.size ≡ search.old.size) }
-    ensures kernel { IfOk result (λ v. KernelOf a.now seeds.now v.items) }
+    ensures kernel { IfOk result (KernelOf a.now seeds.now) }
 {
     search.clear();
     for s in seeds {
@@ -83,81 +84,37 @@ pub(crate) fn kernel(
     }
     search.run(a, Follow::EmptyInput)?;
     let found = active(alloc, a, search.found())?;
-    Ok(found)
+    Ok(StateSet::new(found))
 }
 
-/// For each class of labels, what arcs with a label of it lead to.
-#[derive(Drop)]
-pub(crate) struct Buckets {
-    lists: Vec<Vec<usize>>,
+/// For each class of labels, what arcs with a label of it lead to from a set of states, whose arcs are looked at
+/// once.
+pub(crate) fn targets(
+    alloc: Global,
+    a: &Fst,
+    classes: &Classes,
+    set: &[usize],
+) -> Result<Buckets, AllocError>
+    requires classes { AreClasses a.now classes.now }
+    requires within { (s : ℕ) → Contains set.now s → s < length a.now.arcs }
+    ensures filled { IfOk result (Filled a.now classes.now.classes classes.now.count set.now (length set.now)) }
+{
+    let mut buckets = Buckets::empty(alloc, classes.count())?;
+    for s in set {
+        fill(&mut buckets, classes, a.arcs_of(*s))?;
+    }
+    Ok(buckets)
 }
 
-impl Model for Buckets {
-    ghost use Rattle.std.specs.Prelude.{map, List, ℕ};
-
-    ghost Value = { List (List ℕ) };
-
-    ghost view = { λ a. map (λ v. v.items) a.lists.items };
-}
-
-impl Buckets {
-    /// The buckets of a set of states, whose arcs are looked at once.
-    pub fn of(
-        alloc: Global,
-        a: &Fst,
-        classes: &Classes,
-        set: &[usize],
-    ) -> Result<Buckets, AllocError>
-        requires classes { AreClasses a.now classes.now }
-        requires within { (s : ℕ) → Contains set.now s → s < length a.now.arcs }
-        ensures filled { IfOk result (Filled a.now classes.now.classes classes.now.count set.now (length set.now)) }
-    {
-        let mut buckets = Buckets::empty(alloc, classes.count())?;
-        for s in set {
-            buckets.fill(classes, a.arcs_of(*s))?;
+/// Adds what the arcs of a row lead to.
+fn fill(buckets: &mut Buckets, classes: &Classes, row: &[Arc]) -> Result<(), AllocError>
+    requires within { (j : ℕ) (a : Arc) → slice_get row.now j ≡ Some a → FitsClasses classes.now.classes (length buckets.old) a }
+    ensures filled { OnOk result (RowFilled classes.now.classes row.now (length row.now) buckets.old buckets.new) }
+{
+    for arc in row {
+        if has_label(arc) {
+            buckets.put(classes.of(arc.input), arc.next)?;
         }
-        Ok(buckets)
     }
-
-    /// So many empty buckets.
-    fn empty(alloc: Global, count: usize) -> Result<Buckets, AllocError>
-        ensures count { IfOk result (λ b. length b ≡ count) }
-        ensures empty { IfOk result (λ b. (c : ℕ) → get_or b c [] ≡ []) }
-    {
-        let mut lists = Vec::new(alloc);
-        for _ in 0..count {
-            lists.push(Vec::new(alloc))?;
-        }
-        Ok(Buckets { lists })
-    }
-
-    /// Adds what the arcs of a row lead to.
-    fn fill(&mut self, classes: &Classes, row: &[Arc]) -> Result<(), AllocError>
-        requires within { (j : ℕ) (a : Arc) → slice_get row.now j ≡ Some a → FitsClasses classes.now.classes (length self.old) a }
-        ensures filled { OnOk result (RowFilled classes.now.classes row.now (length row.now) self.old self.new) }
-    {
-        for arc in row {
-            if has_label(arc) {
-                self.put(classes.of(arc.input), arc.next)?;
-            }
-        }
-        Ok(())
-    }
-
-    /// Adds a state to a bucket.
-    fn put(&mut self, class: usize, state: usize) -> Result<(), AllocError>
-        requires within { class < length self.old }
-        ensures value { OnOk result (self.new ≡ with_element self.old class state) }
-    {
-        self.lists[class].push(state)?;
-        Ok(())
-    }
-
-    /// The bucket of a class.
-    pub fn get(&self, class: usize) -> &[usize]
-        requires within { class < length self.now }
-        ensures value { result.now ≡ get_or self.now class [] }
-    {
-        self.lists[class].as_slice()
-    }
+    Ok(())
 }

@@ -8,19 +8,16 @@
 //! a class apart in specs/Alike.antt.
 #![tactic(auto)]
 
+mod buckets;
 mod classes;
 mod complements;
 mod determines;
 mod dfa;
 mod kernels;
-mod pairs;
 mod products;
-mod subsets;
 
+pub use buckets::Buckets;
 pub use complements::complement;
 pub use determines::{determinise, reverse_dfa};
 pub use dfa::Dfa;
 pub use products::minus;
-
-#[cfg(test)]
-mod tests;

@@ -9,8 +9,8 @@ ghost use Rattle.acceptor_ops.specs.Tables.{Accepts, Except};
 ghost use Rattle.acceptor_ops.specs.Beside.{ArePairs, Paired, moved, final_beside};
 
 use crate::dfa::Dfa;
-use crate::pairs::Pairs;
 use fst_core::{Arc, Builder, Fst, trim};
+use state_table::StateTable;
 use std::alloc::{AllocError, Global};
 
 /// The readings of an acceptor whose string the automaton does not accept.
@@ -35,11 +35,11 @@ fn product(alloc: Global, a: &Fst, d: &Dfa) -> Result<Fst, AllocError>
     ensures readings { IfOk result (λ m. Same (Reads m) (Except (Reads a.now) (Accepts d.now))) }
     ensures top { IfOk result (λ m. top_of m ≤ top_of a.now) }
 {
-    let mut pairs = Pairs::new(alloc);
-    let start = pairs.number(a.start(), d.start())?;
+    let mut pairs = StateTable::new(alloc);
+    let start = pairs.number((a.start(), d.start()))?;
     let mut built = Builder::new(alloc);
     while built.len() < pairs.len() {
-        let (first, second) = pairs.get(built.len());
+        let (first, second) = *pairs.key(built.len());
         let row = beside(alloc, a, d, &mut pairs, first, second)?;
         built.push(row, end(d.accepts(second), a.final_of(first)))?;
     }
@@ -72,7 +72,7 @@ fn beside(
     alloc: Global,
     a: &Fst,
     d: &Dfa,
-    pairs: &mut Pairs,
+    pairs: &mut StateTable<(usize, usize)>,
     first: usize,
     second: usize,
 ) -> Result<Vec<Arc>, AllocError>
@@ -84,7 +84,7 @@ fn beside(
     let mut row = Vec::new(alloc);
     for arc in a.arcs_of(first) {
         let q = after(d, second, arc.input);
-        let next = pairs.number(arc.next, q)?;
+        let next = pairs.number((arc.next, q))?;
         row.push(Arc {
             input: arc.input,
             output: arc.output,

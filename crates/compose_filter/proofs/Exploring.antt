@@ -5,7 +5,7 @@ use Rattle.std.proofs.lemmas.Bool.{cases_lt}
 use Rattle.std.proofs.lemmas.List.{length_push, get_or_push, get_or_append_left, take_more}
 use Rattle.std.proofs.Math.Seq.{take-length}
 use Rattle.std.proofs.lemmas.Option.{slice_get-get_or, slice_get_within}
-use Rattle.std.proofs.lemmas.List.Sorted.{IsPermutation-refl, IsPermutation-sym, IsPermutation-trans}
+use Rattle.std.proofs.lemmas.List.Sorted.{IsPermutation-sym}
 use Rattle.weighted_relations.specs.declared.Arc.{Arc}
 use Rattle.weighted_relations.specs.Machines.{Machine, IsArc, final_of, WellFormed}
 use Rattle.fst_core.specs.declared.search.Follow.TheVariants.{Every}
@@ -20,82 +20,78 @@ use Rattle.compose_filter.specs.declared.filters.Move.{Move}
 use Rattle.compose_filter.specs.declared.triples.Triple.{Triple}
 use Rattle.compose_filter.specs.ComposedPaths.{Combination, IsMove, both_move, first_moves, second_moves}
 use Rattle.compose_filter.specs.Combinations.{combinations}
-use Rattle.compose_filter.specs.Compositions.{after, moves_from, Stands, RowOf, RowAt, end_of, first_triple, Distinct}
-use Rattle.compose_filter.specs.Sorted.{IsReordered}
-use Rattle.compose_filter.specs.Numbered.{Keeps, Added, Selection, IsSelected, IsLost, Arrived, RowMade, InRange, IsExplored}
-use Rattle.compose_filter.proofs.Among.{Among}
-use Rattle.compose_filter.proofs.Keys.{pushed_cases, pushed_kept}
+use Rattle.compose_filter.specs.Compositions.{after, moves_from, Stands, RowOf, RowAt, end_of, first_triple, IsComposition}
+use Rattle.fst_core.specs.Sorted.{IsReordered}
+use Rattle.compose_filter.specs.Readers.{Fit}
+use Rattle.compose_filter.specs.Numbered.{Arrived, RowMade, InRange}
+use Rattle.state_table.specs.Numbers.{Distinct, Keeps, Numbers}
+use Rattle.state_table.proofs.Numbering.{keeps_push, keeps_refl, keeps_trans, numbers_keeps, numbers_only, pushed_cases}
+use Rattle.fst_core.proofs.Among.{Among, permuted}
 use Rattle.compose_filter.proofs.Listed.{leads, one_arc_of}
-use Rattle.compose_filter.proofs.Numbering.{move_in, finals_of, permuted}
-use Rattle.compose_filter.proofs.Permutations.{reordered, more_first, more_second}
+use Rattle.compose_filter.proofs.Numbering.{move_in, finals_of}
+use Rattle.compose_filter.proofs.Permutations.{reordered}
+
+-- an element of a list after a push
+pushed : {X : Type 0} (xs : List X) (x y : X) (k : ℕ) → slice_get (xs ++ x ∷ []) k ≡ Some y → ((k < length xs) × (slice_get xs k ≡ Some y)) ⊎ ((k ≡ length xs) × (x ≡ y))
+pushed xs x y k e = elim (pushed_cases xs x k y e) [ inl h ↦ inl (slice_get_within xs k y h, h) | inr h ↦ inr (h.1, sym h.0) ]
 
 stands_kept : (old new : List Triple) (m : Move) (x : Arc) → Keeps old new → Stands old m x → Stands new m x
-stands_kept old new m x k s = record { input = s.input; output = s.output; weight = s.weight; next = k x.next (after m) s.next }
+stands_kept old new m x k s = record { input = s.input; output = s.output; weight = s.weight; next = k.kept x.next (after m) s.next }
 
 row_kept : (old new : List Triple) (ms : List Move) (row : List Arc) → Keeps old new → RowOf old ms row → RowOf new ms row
 row_kept old new ms row k r = record { count = r.count; each = λ i m x e f. stands_kept old new m x k (r.each i m x e f) }
 
-at_kept : (a b : Machine) (L : Triple → Type 0) (old new : List Triple) (t : Triple) (row : List Arc) → Keeps old new → RowAt a b L old t row → RowAt a b L new t row
-at_kept a b L old new t row k r = record { kept = r.kept; dropped = r.dropped; all = r.all; arcs = row_kept old new r.kept row k r.arcs; lost = r.lost }
+at_kept : (a b : Machine) (old new : List Triple) (t : Triple) (row : List Arc) → Keeps old new → RowAt a b old t row → RowAt a b new t row
+at_kept a b old new t row k r = record { moves = r.moves; all = r.all; arcs = row_kept old new r.moves row k r.arcs }
 
 -- the moves of one row, one at a time
-pub made_none : (v : Selection) (old : List Triple) (found : List Move) → RowMade v old old found 0 []
-made_none v old found = record {
-  kept = [];
-  dropped = [];
-  all = IsPermutation-refl [];
+pub made_none : (old : List Triple) (found : List Move) → RowMade old old found 0 []
+made_none old found = record {
   arcs = record { count = refl; each = λ k m x e f. absurd (let n : None ≡ Some x = f in cc) };
-  lost = λ k m e. absurd (let n : None ≡ Some m = e in cc);
-  keeps = λ i t e. e;
+  keeps = keeps_refl old;
   only = λ j u e. inl e;
 }
 
 row_more : (old new : List Triple) (ms : List Move) (row : List Arc) (m : Move) (x : Arc) → RowOf old ms row → Keeps old new → Stands new m x → RowOf new (ms ++ m ∷ []) (row ++ x ∷ [])
 row_more old new ms row m x r keep s = record {
   count = length_push row x ∙ ap (λ c. c + 1) r.count ∙ sym (length_push ms m);
-  each = λ k o y e f. elim (pushed_cases ms m o k e) [
-    | inl h ↦ elim (pushed_cases row x y k f) [
+  each = λ k o y e f. elim (pushed ms m o k e) [
+    | inl h ↦ elim (pushed row x y k f) [
       | inl g ↦ stands_kept old new o y keep (r.each k o y h.1 g.1)
       | inr g ↦ absurd (let c : length row ≡ length ms = r.count in omega (arith, h.0, g.0))
     ]
-    | inr h ↦ elim (pushed_cases row x y k f) [
+    | inr h ↦ elim (pushed row x y k f) [
       | inl g ↦ absurd (let c : length row ≡ length ms = r.count in omega (arith, h.0, g.0))
       | inr g ↦ subst (λ t. Stands new t y) h.1 (subst (Stands new m) g.1 s)
     ]
   ];
 }
 
-arrived_kept : (v : Selection) (found : List Move) (row : List Arc) (x : Arc) (j : ℕ) (u : Triple) → Arrived v found row j u → Arrived v found (row ++ x ∷ []) j u
-arrived_kept v found row x j u r = record {
+arrived_kept : (found : List Move) (row : List Arc) (x : Arc) (j : ℕ) (u : Triple) → Arrived found row j u → Arrived found (row ++ x ∷ []) j u
+arrived_kept found row x j u r = record {
   from = r.from;
   move = r.move;
   is = r.is;
   leads = r.leads;
-  selected = r.selected;
   place = r.place;
   arc = r.arc;
-  there = pushed_kept row x r.arc r.place r.there;
+  there = (keeps_push row x).kept r.place r.arc r.there;
   next = r.next;
 }
 
-pub made_kept : (v : Selection) (old mid new : List Triple) (found : List Move) (n : ℕ) (d : Move) (row : List Arc) (x : Arc) → RowMade v old mid found n row → n < length found → IsSelected v (after (get_or found n d)) → Added mid new (after (get_or found n d)) x.next → x.input ≡ (get_or found n d).input → x.output ≡ (get_or found n d).output → x.weight ≡ (get_or found n d).weight → RowMade v old new found (n + 1) (row ++ x ∷ [])
-made_kept v old mid new found n d row x r l sel add e f g =
+pub made_more : (old mid new : List Triple) (found : List Move) (n : ℕ) (d : Move) (row : List Arc) (x : Arc) → RowMade old mid found n row → n < length found → Distinct new → Numbers mid new (after (get_or found n d)) x.next → x.input ≡ (get_or found n d).input → x.output ≡ (get_or found n d).output → x.weight ≡ (get_or found n d).weight → RowMade old new found (n + 1) (row ++ x ∷ [])
+made_more old mid new found n d row x r l distinct add e f g =
     let m = get_or found n d in
     record {
-      kept = r.kept ++ m ∷ [];
-      dropped = r.dropped;
-      all = subst (λ xs. IsPermutation xs ((r.kept ++ m ∷ []) ++ r.dropped)) (sym (take_more found n d l)) (more_first (take n found) r.kept r.dropped m r.all);
-      arcs = row_more mid new r.kept row m x r.arcs add.kept (record { input = e; output = f; weight = g; next = add.stored });
-      lost = r.lost;
-      keeps = λ i t h. add.kept i t (r.keeps i t h);
-      only = λ j u h. elim (add.only j u h) [
-        | inl k ↦ elim (r.only j u k) [ inl q ↦ inl q | inr q ↦ inr (arrived_kept v found row x j u q) ]
+      arcs = subst (λ ms. RowOf new ms (row ++ x ∷ [])) (sym (take_more found n d l)) (row_more mid new (take n found) row m x r.arcs (numbers_keeps add) (record { input = e; output = f; weight = g; next = add.stored }));
+      keeps = keeps_trans r.keeps (numbers_keeps add);
+      only = λ j u h. elim (numbers_only add distinct j u h) [
+        | inl k ↦ elim (r.only j u k) [ inl q ↦ inl q | inr q ↦ inr (arrived_kept found row x j u q) ]
         | inr k ↦ inr (record {
           from = n;
           move = m;
           is = slice_get-get_or found n d l;
           leads = k.0;
-          selected = subst (IsSelected v) (sym k.0) sel;
           place = length row;
           arc = x;
           there = last_there row x;
@@ -107,19 +103,6 @@ made_kept v old mid new found n d row x r l sel add e f g =
     last_there : (xs : List Arc) (y : Arc) → slice_get (xs ++ y ∷ []) (length xs) ≡ Some y
     last_there [] y = refl
     last_there (z ∷ xs) y = last_there xs y
-
-pub made_dropped : (v : Selection) (old mid : List Triple) (found : List Move) (n : ℕ) (d : Move) (row : List Arc) → RowMade v old mid found n row → n < length found → IsLost v (after (get_or found n d)) → RowMade v old mid found (n + 1) row
-made_dropped v old mid found n d row r l lost =
-    let m = get_or found n d in
-    record {
-      kept = r.kept;
-      dropped = r.dropped ++ m ∷ [];
-      all = subst (λ xs. IsPermutation xs (r.kept ++ (r.dropped ++ m ∷ []))) (sym (take_more found n d l)) (more_second (take n found) r.kept r.dropped m r.all);
-      arcs = r.arcs;
-      lost = λ k o e. elim (pushed_cases r.dropped m o k e) [ inl h ↦ r.lost k o h.1 | inr h ↦ subst (λ (t : Move). IsLost v (after t)) h.1 lost ];
-      keeps = r.keeps;
-      only = r.only;
-    }
 
 -- what a move of two parts is like
 pub record MoveFits (a b : Machine) (i o w : ℕ) (rs : List ℕ) : Type 0 where
@@ -168,13 +151,12 @@ pub record Parent (arcs : List (List Arc)) (s : ℕ) : Type 0 where
   pub within : state < length arcs
 
 -- the states so far: of the first triples
-pub record SoFar (a b : Machine) (v : Selection) (keys : List Triple) (m : States) : Type 0 where
+pub record SoFar (a b : Machine) (keys : List Triple) (m : States) : Type 0 where
   pub final_count : length m.finals ≡ length m.arcs
   pub first : slice_get keys 0 ≡ Some (first_triple a b)
-  pub rows : (s : ℕ) (t : Triple) → s < length m.arcs → slice_get keys s ≡ Some t → RowAt a b (IsLost v) keys t (get_or m.arcs s [])
+  pub rows : (s : ℕ) (t : Triple) → s < length m.arcs → slice_get keys s ≡ Some t → RowAt a b keys t (get_or m.arcs s [])
   pub ends : (s : ℕ) (t : Triple) → s < length m.arcs → slice_get keys s ≡ Some t → final_of m.finals s ≡ end_of a b t
   pub within : (s : ℕ) (t : Triple) → slice_get keys s ≡ Some t → InRange a b t
-  pub selected : (s : ℕ) (t : Triple) → slice_get keys s ≡ Some t → (s ≡ 0) ⊎ IsSelected v t
   pub parents : (s : ℕ) → s < length keys → (s ≡ 0) ⊎ Parent m.arcs s
   pub reached : length m.arcs ≤ length keys
 
@@ -182,23 +164,23 @@ was : (old new : List Triple) (n s : ℕ) (t u : Triple) → Keeps old new → s
 was old new n s t u keep at l e =
     let within : n < length old = slice_get_within old n t at in
     let old_s = slice_get-get_or old s t (omega arith) in
-    let there : slice_get new s ≡ Some (get_or old s t) = keep s (get_or old s t) old_s in
+    let there : slice_get new s ≡ Some (get_or old s t) = keep.kept s (get_or old s t) old_s in
     old_s ∙ (sym there ∙ e)
 
 -- at the start
-pub first_number : (keys : List Triple) (t : Triple) (i : ℕ) → Added [] keys t i → i ≡ 0
-first_number keys t i add =
+pub first_number : (keys : List Triple) (t : Triple) (i : ℕ) → Distinct keys → Numbers [] keys t i → i ≡ 0
+first_number keys t i distinct add =
     let l : i < length keys = slice_get_within keys i t add.stored in
     let at : slice_get keys 0 ≡ Some (get_or keys 0 t) = slice_get-get_or keys 0 t (omega arith) in
-    elim (add.only 0 (get_or keys 0 t) at) [
+    elim (numbers_only add distinct 0 (get_or keys 0 t) at) [
       | inl h ↦ absurd (let n : None ≡ Some (get_or keys 0 t) = h in cc)
       | inr h ↦ sym h.1
     ]
 
-pub none_so_far : (a b : Machine) (v : Selection) (keys : List Triple) (i : ℕ) → WellFormed a → WellFormed b → Added [] keys (first_triple a b) i → SoFar a b v keys no_states
-none_so_far a b v keys i wa wb add =
-    let z : i ≡ 0 = first_number keys (first_triple a b) i add in
-    let is_first : (s : ℕ) (t : Triple) → slice_get keys s ≡ Some t → (t ≡ first_triple a b) × (s ≡ 0) = λ s t e. elim (add.only s t e) [
+pub none_so_far : (a b : Machine) (keys : List Triple) (i : ℕ) → WellFormed a → WellFormed b → Distinct keys → Numbers [] keys (first_triple a b) i → SoFar a b keys no_states
+none_so_far a b keys i wa wb distinct add =
+    let z : i ≡ 0 = first_number keys (first_triple a b) i distinct add in
+    let is_first : (s : ℕ) (t : Triple) → slice_get keys s ≡ Some t → (t ≡ first_triple a b) × (s ≡ 0) = λ s t e. elim (numbers_only add distinct s t e) [
       | inl h ↦ absurd (let n : None ≡ Some t = h in cc)
       | inr h ↦ (h.0, h.1 ∙ z)
     ] in
@@ -208,45 +190,37 @@ none_so_far a b v keys i wa wb add =
       rows = λ s t l h. absurd (omega (arith, l));
       ends = λ s t l h. absurd (omega (arith, l));
       within = λ s t e. subst (InRange a b) (sym (is_first s t e).0) (record { first = wa.start; second = wb.start });
-      selected = λ s t e. inl (is_first s t e).1;
       parents = λ s l. inl (is_first s (get_or keys s (first_triple a b)) (slice_get-get_or keys s (first_triple a b) l)).1;
       reached = omega arith;
     }
 
 -- the moves that were found are those of the triple
-pub row_at : (a b c : Machine) (v : Selection) (old new : List Triple) (t : Triple) (found : List Move) (row : List Arc) → IsReordered b c → found ≡ combinations (get_or a.arcs t.qa []) t.qa (get_or c.arcs t.qb []) t.qb t.filter → RowMade v old new found (length found) row → RowAt a b (IsLost v) new t row
-row_at a b c v old new t found row order e r =
-    let whole : IsPermutation found (r.kept ++ r.dropped) = subst (λ xs. IsPermutation xs (r.kept ++ r.dropped)) (take-length found) r.all in
+pub row_at : (a b c : Machine) (old new : List Triple) (t : Triple) (found : List Move) (row : List Arc) → IsReordered b c → found ≡ combinations (get_or a.arcs t.qa []) t.qa (get_or c.arcs t.qb []) t.qb t.filter → RowMade old new found (length found) row → RowAt a b new t row
+row_at a b c old new t found row order e r =
     let moved : IsPermutation (moves_from a b t) found = subst (IsPermutation (moves_from a b t)) (sym e) (reordered (get_or a.arcs t.qa []) t.qa (get_or b.arcs t.qb []) (get_or c.arcs t.qb []) t.qb t.filter (order.rows t.qb)) in
-    record {
-      kept = r.kept;
-      dropped = r.dropped;
-      all = IsPermutation-trans (moves_from a b t) found (r.kept ++ r.dropped) moved whole;
-      arcs = r.arcs;
-      lost = r.lost;
-    }
+    record { moves = found; all = moved; arcs = subst (λ ms. RowOf new ms row) (take-length found) r.arcs }
 
-pub more_so_far : (a b c : Machine) (v : Selection) (old new : List Triple) (m : States) (n : ℕ) (t : Triple) (found : List Move) (row : List Arc) (last : Option ℕ) → WellFormed a → WellFormed b → IsReordered b c → SoFar a b v old m → n ≡ length m.arcs → slice_get old n ≡ Some t → found ≡ combinations (get_or a.arcs t.qa []) t.qa (get_or c.arcs t.qb []) t.qb t.filter → RowMade v old new found (length found) row → last ≡ end_of a b t → SoFar a b v new (with_state m row last)
-more_so_far a b c v old new m n t found row last wa wb order so count at moves made final =
-    let at_row : RowAt a b (IsLost v) new t row = row_at a b c v old new t found row order moves made in
+pub more_so_far : (a b c : Machine) (old new : List Triple) (m : States) (n : ℕ) (t : Triple) (found : List Move) (row : List Arc) (last : Option ℕ) → WellFormed a → WellFormed b → IsReordered b c → SoFar a b old m → n ≡ length m.arcs → slice_get old n ≡ Some t → found ≡ combinations (get_or a.arcs t.qa []) t.qa (get_or c.arcs t.qb []) t.qb t.filter → RowMade old new found (length found) row → last ≡ end_of a b t → SoFar a b new (with_state m row last)
+more_so_far a b c old new m n t found row last wa wb order so count at moves made final =
+    let at_row : RowAt a b new t row = row_at a b c old new t found row order moves made in
     let range : InRange a b t = so.within n t at in
     let arc_count : length (m.arcs ++ row ∷ []) ≡ length m.arcs + 1 = length_push m.arcs row in
-    let there : slice_get new n ≡ Some t = made.keeps n t at in
+    let there : slice_get new n ≡ Some t = made.keeps.kept n t at in
     let in_old : n < length old = slice_get_within old n t at in
     let in_new : n < length new = slice_get_within new n t there in
     record {
       final_count = length_push m.finals last ∙ (ap (λ k. k + 1) so.final_count ∙ sym arc_count);
-      first = made.keeps 0 (first_triple a b) so.first;
+      first = made.keeps.kept 0 (first_triple a b) so.first;
       rows = λ s u l e. elim (cases_lt s (length m.arcs)) [
         | inl h ↦
             let stay : get_or (m.arcs ++ row ∷ []) s [] ≡ get_or m.arcs s [] = get_or_append_left m.arcs (row ∷ []) [] s h in
-            subst (RowAt a b (IsLost v) new u) (sym stay) (at_kept a b (IsLost v) old new u (get_or m.arcs s []) made.keeps (so.rows s u h (was old new n s t u made.keeps at (omega arith) e)))
+            subst (RowAt a b new u) (sym stay) (at_kept a b old new u (get_or m.arcs s []) made.keeps (so.rows s u h (was old new n s t u made.keeps at (omega arith) e)))
         | inr h ↦
             let is : s ≡ length m.arcs = omega arith in
             let last_row : get_or (m.arcs ++ row ∷ []) s [] ≡ row = get_or_push m.arcs row [] s (sym is) in
             let same : Some t ≡ Some u = sym there ∙ (ap (slice_get new) (count ∙ sym is) ∙ e) in
             let one : t ≡ u = cc in
-            subst (RowAt a b (IsLost v) new u) (sym last_row) (subst (λ w. RowAt a b (IsLost v) new w row) one at_row)
+            subst (RowAt a b new u) (sym last_row) (subst (λ w. RowAt a b new w row) one at_row)
       ];
       ends = λ s u l e. elim (cases_lt s (length m.arcs)) [
         | inl h ↦ get_or_append_left m.finals (last ∷ []) None s (let k : length m.finals ≡ length m.arcs = so.final_count in omega arith) ∙ so.ends s u h (was old new n s t u made.keeps at (omega arith) e)
@@ -265,7 +239,6 @@ more_so_far a b c v old new m n t found row last wa wb order so count at moves m
             let q = f.states r.move.qa r.move.qb refl in
             subst (InRange a b) (sym r.leads) (record { first = q.0; second = q.1 })
       ];
-      selected = λ s u e. elim (made.only s u e) [ inl h ↦ so.selected s u h | inr r ↦ inr r.selected ];
       parents = λ s l. elim (cases_lt s (length old)) [
         | inl h ↦ elim (so.parents s h) [
           | inl z ↦ inl z
@@ -297,7 +270,7 @@ within_arcs arcs s k x e = elim (cases_lt s (length arcs)) [ inl l ↦ l | inr l
 within_ends : (finals : List (Option ℕ)) (s w : ℕ) → final_of finals s ≡ Some w → s < length finals
 within_ends finals s w e = elim (cases_lt s (length finals)) [ inl l ↦ l | inr l ↦ absurd (no_end finals s w l e) ]
 
-module _ (a b : Machine) (v : Selection) (keys : List Triple) (m : States) (wa : WellFormed a) (wb : WellFormed b) (so : SoFar a b v keys m) (done : length keys ≤ length m.arcs) where
+module _ (a b : Machine) (keys : List Triple) (m : States) (wa : WellFormed a) (wb : WellFormed b) (so : SoFar a b keys m) (done : length keys ≤ length m.arcs) where
   key_at : (s : ℕ) → s < length m.arcs → slice_get keys s ≡ Some (get_or keys s (first_triple a b))
   key_at s l = slice_get-get_or keys s (first_triple a b) (let r : length m.arcs ≤ length keys = so.reached in omega arith)
 
@@ -307,7 +280,7 @@ module _ (a b : Machine) (v : Selection) (keys : List Triple) (m : States) (wa :
       let t : Triple = get_or keys s (first_triple a b) in
       let at : slice_get keys s ≡ Some t = key_at s l in
       let r = so.within s t at in
-      let q = move_in a b (IsLost v) keys t (get_or m.arcs s []) k x (so.rows s t l at) e in
+      let q = move_in a b keys t (get_or m.arcs s []) k x (so.rows s t l at) e in
       let f = move_fits a b wa wb (r.first, r.second) q.is in
       (f.input, f.output, f.weight, slice_get_within keys x.next q.to q.next)
 
@@ -335,17 +308,16 @@ module _ (a b : Machine) (v : Selection) (keys : List Triple) (m : States) (wa :
   pub top_fits : (start : ℕ) (r : Machine) → r ≡ as_machine start m → top_of r ≤ top_of a + top_of b
   top_fits start r e = built_top (top_of a + top_of b) start r m e (record { arcs = λ s k x h. (arc_fits s k x h).2; ends = end_fits })
 
-  pub explored_of : (start : ℕ) → start ≡ 0 → Distinct keys → IsExplored a b v keys (as_machine start m)
-  explored_of start z distinct =
+  pub composition_of : (start : ℕ) → start ≡ 0 → Distinct keys → IsComposition a b (as_machine start m)
+  composition_of start z distinct =
       let reach : length m.arcs ≤ length keys = so.reached in
       record {
+        keys = keys;
         distinct = distinct;
         count = omega arith;
-        start = z;
-        first = so.first;
+        start = ap (slice_get keys) z ∙ so.first;
         rows = λ s t e. so.rows s t (let h : s < length keys = slice_get_within keys s t e in omega arith) e;
         ends = λ s t e. so.ends s t (let h : s < length keys = slice_get_within keys s t e in omega arith) e;
-        selected = so.selected;
         reached = λ s l. led_to start m (suc s) s (omega arith) z (λ t k. so.parents t (omega arith));
       }
 
@@ -361,15 +333,17 @@ reordered_top b c order = top_under c (top_of b) (record {
   ends = λ s w h. end_below b s w (sym (order.ends s) ∙ h);
 })
 
-pub left_fits : (a b c : Machine) (s : ℕ) (row : List Arc) (k : ℕ) (d : Arc) → IsReordered b c → top_of a + top_of b < 2 ^ 54 → row ≡ get_or a.arcs s [] → k < length row → (get_or row k d).weight + top_of c < 2 ^ 63
-left_fits a b c s row k d order fits e l =
-    let t : top_of c ≤ top_of b = reordered_top b c order in
-    let x : Arc = get_or row k d in
-    let w : x.weight ≤ top_of a = arc_below a s k x (ap (λ r. slice_get r k) (sym e) ∙ slice_get-get_or row k d l) in
+pub row_fits : (a b c : Machine) (s t : ℕ) (left row : List Arc) → IsReordered b c → top_of a + top_of b < 2 ^ 54 → left ≡ get_or a.arcs s [] → row ≡ get_or c.arcs t [] → Fit left row
+row_fits a b c s t left row order fits e f k d l j g m =
+    let under : top_of c ≤ top_of b = reordered_top b c order in
+    let x : Arc = get_or left k d in
+    let y : Arc = get_or row j g in
+    let p : x.weight ≤ top_of a = arc_below a s k x (ap (λ r. slice_get r k) (sym e) ∙ slice_get-get_or left k d l) in
+    let q : y.weight ≤ top_of c = arc_below c t j y (ap (λ r. slice_get r j) (sym f) ∙ slice_get-get_or row j g m) in
     omega arith
 
-pub first_added : (a b : Machine) (none keys : List Triple) (i p q : ℕ) → none ≡ [] → p ≡ a.start → q ≡ b.start → Added none keys (record { qa = p; qb = q; filter = Open }) i → Added [] keys (first_triple a b) i
+pub first_added : (a b : Machine) (none keys : List Triple) (i p q : ℕ) → none ≡ [] → p ≡ a.start → q ≡ b.start → Numbers none keys (record { qa = p; qb = q; filter = Open }) i → Numbers [] keys (first_triple a b) i
 first_added a b none keys i p q e f g add =
-    subst (λ n. Added [] keys (record { qa = n; qb = b.start; filter = Open }) i) f
-    (subst (λ n. Added [] keys (record { qa = p; qb = n; filter = Open }) i) g
-    (subst (λ l. Added l keys (record { qa = p; qb = q; filter = Open }) i) e add))
+    subst (λ n. Numbers [] keys (record { qa = n; qb = b.start; filter = Open }) i) f
+    (subst (λ n. Numbers [] keys (record { qa = p; qb = n; filter = Open }) i) g
+    (subst (λ l. Numbers l keys (record { qa = p; qb = q; filter = Open }) i) e add))

@@ -2,14 +2,11 @@ pub mod Pairs
 pub mod OneWay
 pub mod Alone
 pub mod Law
-pub mod Loops
 pub mod Readers
-pub mod Among
 pub mod Listed
 pub mod Permutations
 pub mod Numbering
-pub mod Living
-pub mod Keys
 pub mod Exploring
-pub mod Composing
-pub mod Orders
+pub mod Named
+pub mod Mapped
+pub mod TwoParts

@@ -1,5 +1,5 @@
 -- The list of moves from a triple has the moves of the two parts.
-use Rattle.std.specs.Prelude.{◌≡◌, ◌==◌, ◌&&◌, not, ℕ, zero, suc, ◌+◌, Bool, true, false, cond, List, [], ◌∷◌, ◌++◌, Some, None, get_or}
+use Rattle.std.specs.Prelude.{◌≡◌, ◌==◌, ◌&&◌, not, ℕ, zero, suc, ◌+◌, true, List, [], ◌∷◌, ◌++◌, Some, None, get_or}
 use Rattle.std.specs.List.{filter_map}
 use Rattle.std.proofs.Common.{refl, sym, ◌∙◌, ap, subst, inl, inr}
 use Rattle.std.proofs.lemmas.Bool.{and_parts, and_from, not-true, not_from_false, eqb-true, eqb-false, eq-eqb, ne_eqb, cond-true}
@@ -13,11 +13,7 @@ use Rattle.compose_filter.specs.declared.triples.Triple.{Triple}
 use Rattle.compose_filter.specs.ComposedPaths.{Combination, only, both, first, second, IsMove, only_moves, both_move, first_moves, second_moves}
 use Rattle.compose_filter.specs.Combinations.{joint, first_alone, second_alone, all_joint}
 use Rattle.compose_filter.specs.Compositions.{states, filters, after, moves_from}
-use Rattle.compose_filter.proofs.Among.{Among, among_left, among_right, among_cases, from_filter_map, to_filter_map, from_flat_map, to_flat_map}
-
-pub cond_some : {X : Type 0} (t : Bool) (x y : X) → cond t (Some x) None ≡ Some y → (t ≡ true) × (x ≡ y)
-cond_some true x y e = (refl, cc)
-cond_some false x y e = absurd (cc)
+use Rattle.fst_core.proofs.Among.{Among, cond_some, among_left, among_right, among_cases, from_filter_map, to_filter_map, from_flat_map, to_flat_map}
 
 pub positive : (n : ℕ) → (n ≡ 0 → ⊥) → (o : ℕ) × (n ≡ suc o)
 positive zero h = absurd (h refl)

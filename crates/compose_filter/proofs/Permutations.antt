@@ -1,8 +1,8 @@
 -- Lists that are made of a list and of the same one in another order.
-use Rattle.std.specs.Prelude.{ℕ, zero, suc, ◌<◌, List, [], ◌∷◌, ◌++◌, Option, Some, None, length, get_or, IsPermutation}
+use Rattle.std.specs.Prelude.{ℕ, zero, suc, ◌<◌, List, [], ◌∷◌, Option, Some, None, length, get_or, IsPermutation}
 use Rattle.std.specs.List.{flat_map, filter_map, cons_option, swap}
-use Rattle.std.proofs.Common.{sym, subst, arith, append_assoc, set}
-use Rattle.std.proofs.lemmas.List.Sorted.{IsPermutation-refl, IsPermutation-keeps, IsPermutation-trans, IsPermutation-append, IsPermutation-append_left, IsPermutation-append_comm, IsPermutation-middle, IsPermutation-sym, IsPermutation-cons}
+use Rattle.std.proofs.Common.{arith, set}
+use Rattle.std.proofs.lemmas.List.Sorted.{IsPermutation-refl, IsPermutation-keeps, IsPermutation-trans, IsPermutation-append, IsPermutation-append_left, IsPermutation-append_comm, IsPermutation-cons}
 use Rattle.weighted_relations.specs.declared.Arc.{Arc}
 use Rattle.compose_filter.specs.declared.filters.Filter.{Filter}
 use Rattle.compose_filter.specs.Combinations.{joint, first_alone, second_alone, combinations}
@@ -58,14 +58,3 @@ reordered left qa row other qb f h =
     IsPermutation-append _ _ _ _
     (IsPermutation-append_left (filter_map (first_alone qb f) left) _ _ (permuted_each (λ x. filter_map (joint x) row) (λ x. filter_map (joint x) other) (λ x. permuted_kept (joint x) row other h) left))
     (permuted_kept (second_alone qa) row other h)
-
--- one more element, at the end of the first part or of the second
-pub more_first : {X : Type 0} (xs kept dropped : List X) (x : X) → IsPermutation xs (kept ++ dropped) → IsPermutation (xs ++ x ∷ []) ((kept ++ x ∷ []) ++ dropped)
-more_first xs kept dropped x h =
-    let one = IsPermutation-append_left (x ∷ []) xs (kept ++ dropped) h in
-    let end = IsPermutation-append_comm (kept ++ dropped) (x ∷ []) in
-    let back = IsPermutation-sym (kept ++ x ∷ dropped) (x ∷ (kept ++ dropped)) (IsPermutation-middle kept x dropped) in
-    subst (IsPermutation (xs ++ x ∷ [])) (sym (append_assoc kept (x ∷ []) dropped)) (IsPermutation-trans _ _ _ one (IsPermutation-trans _ _ _ end back))
-
-pub more_second : {X : Type 0} (xs kept dropped : List X) (x : X) → IsPermutation xs (kept ++ dropped) → IsPermutation (xs ++ x ∷ []) (kept ++ (dropped ++ x ∷ []))
-more_second xs kept dropped x h = subst (IsPermutation (xs ++ x ∷ [])) (append_assoc kept dropped (x ∷ [])) (IsPermutation-append_left (x ∷ []) xs (kept ++ dropped) h)

@@ -1,116 +1,72 @@
--- The arcs that read a label stand together where the arcs are in the order of their inputs.
-use Rattle.std.specs.Prelude.{◌≡◌, ◌==◌, ℕ, suc, ◌+◌, ◌-◌, ◌<◌, ◌≤◌, ◌^◌, Bool, true, false, List, [], ◌∷◌, ◌++◌, length, get_or, take, drop, cond, not, ◌&&◌, Option, Some, None, All}
-use Rattle.std.specs.List.{Contains, filter, filter_map, cons_option, IsAllAdjacentAnswer}
-use Rattle.std.specs.List.Sorted.{IsPartitionPoint, IsNonDecreasingBy}
-use Rattle.std.proofs.Common.{refl, sym, ◌∙◌, ap, arith, ltb, leb}
-use Rattle.std.proofs.lemmas.Bool.{eqb-false, eq-eqb, ne_eqb, ltb-true, ltb-false, leb-true, leb-false}
-use Rattle.std.proofs.lemmas.List.{take-append-drop, get_or-take, get_or-drop, append-nil, length-take-le, length-drop}
-use Rattle.std.proofs.Math.Seq.{take-length}
-use Rattle.std.proofs.lemmas.List.Elements.{filter-append, All-filter, All-contains, All-contains_itself, All-weaker}
-use Rattle.std.proofs.lemmas.List.Sorted.{IsNonDecreasingBy-from_all_adjacent}
+-- The arcs among which are all that read a label.
+use Rattle.std.specs.Prelude.{◌≡◌, ◌==◌, ◌&&◌, not, ℕ, ◌+◌, Bool, true, false, cond, List, [], ◌∷◌, Option, Some, None, All, Contains}
+use Rattle.std.specs.List.{filter, filter_map, cons_option}
+use Rattle.std.proofs.Common.{refl, sym, ◌∙◌, ap}
+use Rattle.std.proofs.lemmas.Bool.{eqb-false, eq-eqb, ne_eqb}
+use Rattle.std.proofs.lemmas.List.Elements.{All-filter, All-contains, All-contains_itself, All-weaker}
 use Rattle.weighted_relations.specs.declared.Arc.{Arc}
+use Rattle.compose_filter.specs.declared.filters.Filter.{Filter}
 use Rattle.compose_filter.specs.declared.filters.Filter.TheVariants.{Open, Closed}
+use Rattle.compose_filter.specs.declared.filters.Taken.{Taken}
 use Rattle.compose_filter.specs.declared.filters.Taken.TheVariants.{Both, Second}
-use Rattle.compose_filter.specs.declared.filters.Move.{Move}
-use Rattle.compose_filter.specs.Combinations.{joint, second_alone}
-use Rattle.compose_filter.specs.Sorted.{HasReaders}
+use Rattle.compose_filter.specs.declared.steps.Step.{Step}
+use Rattle.compose_filter.specs.Steps.{both_step, second_step}
+use Rattle.compose_filter.specs.Readers.{AreReaders}
 
-module _ {X : Type 0} (p : X → Bool) where
-  pub all_pass : (xs : List X) → ((k : ℕ) (d : X) → k < length xs → p (get_or xs k d) ≡ true) → filter p xs ≡ xs
-  all_pass [] h = refl
-  all_pass (x ∷ xs) h =
-      let here : p x ≡ true = h 0 x (omega arith) in
-      rw (here, all_pass xs (λ k d l. h (suc k) d (omega arith))) refl
+abbrev reads : ℕ → Arc → Bool
+reads label y = y.input == label
 
-  pub none_pass : (xs : List X) → ((k : ℕ) (d : X) → k < length xs → p (get_or xs k d) ≡ false) → filter p xs ≡ []
-  none_pass [] h = refl
-  none_pass (x ∷ xs) h =
-      let here : p x ≡ false = h 0 x (omega arith) in
-      rw (here, none_pass xs (λ k d l. h (suc k) d (omega arith))) refl
-
--- what gives nothing off the label gives as much of the arcs that read it
-all_read : (label : ℕ) (row : List Arc) (h : Arc → Option Move) → ((y : Arc) → (y.input ≡ label → ⊥) → h y ≡ None) → filter_map h (filter (λ y. y.input == label) row) ≡ filter_map h row
-all_read label [] h off = refl
-all_read label (y ∷ row) h off = by (y.input == label) refl (all_read label row h off)
+twice : (p : Arc → Bool) (row : List Arc) → filter p (filter p row) ≡ filter p row
+twice p [] = refl
+twice p (y ∷ row) = by (p y) refl (twice p row)
   where
-    by : (b : Bool) → (y.input == label) ≡ b → filter_map h (filter (λ z. z.input == label) row) ≡ filter_map h row → filter_map h (cond b (y ∷ filter (λ z. z.input == label) row) (filter (λ z. z.input == label) row)) ≡ cons_option (h y) (filter_map h row)
-    by true e more = ap (cons_option (h y)) more
-    by false e more = more ∙ sym (ap (λ o. cons_option o (filter_map h row)) (off y (eqb-false y.input label e)))
+    by : (b : Bool) → p y ≡ b → filter p (filter p row) ≡ filter p row → filter p (cond b (y ∷ filter p row) (filter p row)) ≡ cond b (y ∷ filter p row) (filter p row)
+    by true e more = ap (λ t. cond t (y ∷ filter p (filter p row)) (filter p (filter p row))) e ∙ ap (λ t. y ∷ t) more
+    by false e more = more
 
-pub filter_has : (label : ℕ) (row : List Arc) → HasReaders label row (filter (λ y. y.input == label) row)
-filter_has label row = record { all = all_read label row; within = All-filter (λ y. y.input == label) (Contains row) row (All-contains_itself row) }
+pub filtered_reads : (label : ℕ) (row part : List Arc) → part ≡ filter (reads label) row → AreReaders label row part
+filtered_reads label row part e = rw e (record { same = twice (reads label) row; within = All-filter (reads label) (Contains row) row (All-contains_itself row) })
 
-pub whole_has : (label : ℕ) (row : List Arc) → HasReaders label row row
-whole_has label row = record { all = λ h off. refl; within = All-contains_itself row }
+pub whole_reads : (label : ℕ) (row : List Arc) → AreReaders label row row
+whole_reads label row = record { same = refl; within = All-contains_itself row }
 
--- each arc's input is no greater than the next one's
-pub sorted_from : (row : List Arc) (r : Bool) → IsAllAdjacentAnswer (λ a b t. t ≡ leb a.input b.input) row r → r ≡ true → IsNonDecreasingBy (λ y. y.input) row
-sorted_from row true h e = IsNonDecreasingBy-from_all_adjacent (λ y. y.input) row (λ k d l. leb-true (get_or row k d).input (get_or row (k + 1) d).input (sym (h k d l)))
-sorted_from row false h e = absurd (cc)
+pub all_within : (P : Arc → Type 0) (row part : List Arc) → All P row → All (Contains row) part → All P part
+all_within P row part h within = All-weaker (Contains row) P (λ y c. All-contains P row y h c) part within
 
--- the part between the arcs that read less and those that read more
-pub part_is : (label : ℕ) (row : List Arc) (i j : ℕ) → i ≤ length row → j ≤ length (drop i row) → IsPartitionPoint (λ y. ltb y.input label ≡ true) (λ y. ltb y.input label ≡ false) row i → IsPartitionPoint (λ y. leb y.input label ≡ true) (λ y. leb y.input label ≡ false) (drop i row) j → take j (drop i row) ≡ filter (λ y. y.input == label) row
-part_is label row i j li lj low high =
-    let p : Arc → Bool = λ y. y.input == label in
-    let first = take i row in
-    let rest = drop i row in
-    let part = take j rest in
-    let last = drop j rest in
-    let before : filter p first ≡ [] = none_pass p first (λ k d l.
-    let m : k < i = (let n : length first ≡ i = length-take-le i row li in omega arith) in
-    let at : get_or first k d ≡ get_or row k d = get_or-take i row k d m in
-    let t : (get_or row k d).input < label = ltb-true (get_or row k d).input label (low.0 k d (omega arith) m) in
-    ap p at ∙ ne_eqb (get_or row k d).input label (λ e. omega (arith, t, e))) in
-    let within : filter p part ≡ part = all_pass p part (λ k d l.
-    let m : k < j = (let n : length part ≡ j = length-take-le j rest lj in omega arith) in
-    let at : get_or part k d ≡ get_or rest k d = get_or-take j rest k d m in
-    let up : (get_or rest k d).input ≤ label = leb-true (get_or rest k d).input label (high.0 k d (omega arith) m) in
-    let in_row : get_or rest k d ≡ get_or row (i + k) d = get_or-drop i row k d in
-    let n : i + k < length row = (let q : length rest ≡ length row - i = length-drop i row in omega arith) in
-    let down : label ≤ (get_or row (i + k) d).input = ltb-false (get_or row (i + k) d).input label (low.1 (i + k) d (omega arith) n) in
-    let is : (get_or rest k d).input ≡ label = (let z : (get_or rest k d).input ≡ (get_or row (i + k) d).input = ap (λ (y : Arc). y.input) in_row in omega arith) in
-    ap p at ∙ eq-eqb (get_or rest k d).input label is) in
-    let after : filter p last ≡ [] = none_pass p last (λ k d l.
-    let at : get_or last k d ≡ get_or rest (j + k) d = get_or-drop j rest k d in
-    let n : j + k < length rest = (let q : length last ≡ length rest - j = length-drop j rest in omega arith) in
-    let down : label < (get_or rest (j + k) d).input = leb-false (get_or rest (j + k) d).input label (high.1 (j + k) d (omega arith) n) in
-    ap p at ∙ ne_eqb (get_or rest (j + k) d).input label (λ e. omega (arith, down, e))) in
-    let whole : filter p (first ++ (part ++ last)) ≡ part =
-    filter-append p first (part ++ last)
-    ∙ (ap (λ t. t ++ filter p (part ++ last)) before
-    ∙ (filter-append p part last
-    ∙ (ap (λ t. t ++ filter p last) within
-    ∙ (ap (λ t. part ++ t) after
-    ∙ append-nil part)))) in
-    let split : first ++ (part ++ last) ≡ row = ap (λ t. first ++ t) (take-append-drop j rest) ∙ take-append-drop i row in
-    sym whole ∙ ap (filter p) split
+-- what gives nothing off the label
+module _ {Y : Type 0} (label : ℕ) (h : Arc → Option Y) (off : (y : Arc) → (y.input ≡ label → ⊥) → h y ≡ None) where
+  all_read : (row : List Arc) → filter_map h (filter (reads label) row) ≡ filter_map h row
+  all_read [] = refl
+  all_read (y ∷ row) = by (reads label y) refl (all_read row)
+    where
+      by : (b : Bool) → reads label y ≡ b → filter_map h (filter (reads label) row) ≡ filter_map h row → filter_map h (cond b (y ∷ filter (reads label) row) (filter (reads label) row)) ≡ cons_option (h y) (filter_map h row)
+      by true e more = ap (cons_option (h y)) more
+      by false e more = more ∙ sym (ap (λ o. cons_option o (filter_map h row)) (off y (eqb-false y.input label e)))
 
--- what fits a row fits a part of it
-pub part_fits : (n : ℕ) (row part : List Arc) → All (λ (y : Arc). n + y.weight < 2 ^ 64) row → All (Contains row) part → All (λ (y : Arc). n + y.weight < 2 ^ 64) part
-part_fits n row part h within = All-weaker (Contains row) (λ (y : Arc). n + y.weight < 2 ^ 64) (λ y c. All-contains (λ (z : Arc). n + z.weight < 2 ^ 64) row y h c) part within
-
-pub rest_is : (row : List Arc) (i : ℕ) → take (length row - i) (drop i row) ≡ drop i row
-rest_is row i = ap (λ n. take n (drop i row)) (sym (length-drop i row)) ∙ take-length (drop i row)
-
-abbrev joint_move : Arc → Arc → Move
-joint_move x y = record { input = x.input; output = y.output; weight = x.weight + y.weight; qa = x.next; qb = y.next; filter = Open; taken = Both }
+pub readers_give : {Y : Type 0} (label : ℕ) (row part : List Arc) → AreReaders label row part → (h : Arc → Option Y) → ((y : Arc) → (y.input ≡ label → ⊥) → h y ≡ None) → filter_map h part ≡ filter_map h row
+readers_give label row part r h off = sym (all_read label h off part) ∙ (ap (filter_map h) r.same ∙ all_read label h off row)
 
 and-false : (b : Bool) → (b && false) ≡ false
 and-false true = refl
 and-false false = refl
 
--- an arc of the second that doesn't read what the first writes
-pub joint_off : (x y : Arc) → (y.input ≡ x.output → ⊥) → joint x y ≡ None
-joint_off x y off =
-    let e : (x.output == y.input) ≡ false = ne_eqb x.output y.input (λ h. off (sym h)) in
-    ap (λ b. cond (not (x.output == 0) && b) (Some (joint_move x y)) None) e ∙ ap (λ b. cond b (Some (joint_move x y)) None) (and-false (not (x.output == 0)))
+-- which arcs of the part give nothing
+module _ {X A B Y : Type 0} (step : X → Step A) (pair : A → ℕ → Filter → Taken → B) (made : Step B → Y) where
+  abbrev joint_move : X → Arc → Y
+  joint_move x y = made (record { input = (step x).input; output = y.output; weight = (step x).weight + y.weight; next = pair (step x).next y.next Open Both })
 
--- the first writes nothing
-pub joint_none : (x : Arc) (row : List Arc) → x.output ≡ 0 → filter_map (joint x) row ≡ []
-joint_none x [] e = refl
-joint_none x (y ∷ row) e =
-    let none : joint x y ≡ None = ap (λ b. cond (not b && (x.output == y.input)) (Some (joint_move x y)) None) (eq-eqb x.output 0 e) in
-    ap (λ o. cons_option o (filter_map (joint x) row)) none ∙ joint_none x row e
+  -- an arc that doesn't read what is written
+  pub both_off : (x : X) (y : Arc) → (y.input ≡ (step x).output → ⊥) → both_step step pair made x y ≡ None
+  both_off x y off =
+      let e : ((step x).output == y.input) ≡ false = ne_eqb (step x).output y.input (λ h. off (sym h)) in
+      ap (λ b. cond (not ((step x).output == 0) && b) (Some (joint_move x y)) None) e ∙ ap (λ b. cond b (Some (joint_move x y)) None) (and-false (not ((step x).output == 0)))
 
-pub second_off : (qa : ℕ) (y : Arc) → (y.input ≡ 0 → ⊥) → second_alone qa y ≡ None
-second_off qa y off = ap (λ b. cond b (Some (record { input = 0; output = y.output; weight = y.weight; qa = qa; qb = y.next; filter = Closed; taken = Second })) None) (ne_eqb y.input 0 off)
+  -- nothing is written
+  pub both_none : (x : X) (row : List Arc) → (step x).output ≡ 0 → filter_map (both_step step pair made x) row ≡ []
+  both_none x [] e = refl
+  both_none x (y ∷ row) e =
+      let none : both_step step pair made x y ≡ None = ap (λ b. cond (not b && ((step x).output == y.input)) (Some (joint_move x y)) None) (eq-eqb (step x).output 0 e) in
+      ap (λ o. cons_option o (filter_map (both_step step pair made x) row)) none ∙ both_none x row e
+
+  pub second_off : (at : A) (y : Arc) → (y.input ≡ 0 → ⊥) → second_step step pair made at y ≡ None
+  second_off at y off = ap (λ b. cond b (Some (made (record { input = 0; output = y.output; weight = y.weight; next = pair at y.next Closed Second }))) None) (ne_eqb y.input 0 off)

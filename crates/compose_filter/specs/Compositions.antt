@@ -1,13 +1,15 @@
 -- The composition of two transducers: its states are triples of two states and a filter.
-use Rattle.std.specs.Prelude.{◌≡◌, ℕ, ◌+◌, List, [], ◌∷◌, ◌++◌, Option, Some, None, length, get_or, slice_get, IsPermutation}
+use Rattle.std.specs.Prelude.{◌≡◌, ℕ, ◌+◌, ◌<◌, List, [], ◌∷◌, Option, Some, None, length, get_or, slice_get, IsPermutation}
 use Rattle.weighted_relations.specs.declared.Arc.{Arc}
 use Rattle.weighted_relations.specs.Machines.{Machine, final_of}
+use Rattle.fst_core.specs.declared.search.Follow.TheVariants.{Every}
+use Rattle.fst_core.specs.Reach.{Leads}
+use Rattle.state_table.specs.Numbers.{Distinct}
 use Rattle.compose_filter.specs.declared.filters.Filter.{Filter}
 use Rattle.compose_filter.specs.declared.filters.Filter.TheVariants.{Open}
 use Rattle.compose_filter.specs.declared.filters.Move.{Move}
 use Rattle.compose_filter.specs.declared.triples.Triple.{Triple}
 use Rattle.compose_filter.specs.Combinations.{combinations}
-use Rattle.compose_filter.specs.ComposedPaths.{Combination, ComposedPath}
 
 -- the states and the filter, the last transducer first
 abbrev pub states : Triple → List ℕ
@@ -37,10 +39,6 @@ both_final None last = None
 abbrev pub end_of : Machine → Machine → Triple → Option ℕ
 end_of a b t = both_final (final_of a.finals t.qa) (final_of b.finals t.qb)
 
--- no composed path leads from the triple to a final one
-abbrev pub IsDead : Machine → Machine → Triple → Type 0
-IsDead a b t = (cs : List Combination) (x y : List ℕ) (w : ℕ) → ComposedPath (b ∷ a ∷ []) (states t) (filters t) cs x y w → ⊥
-
 -- an arc that stands for a move
 pub record Stands (keys : List Triple) (m : Move) (x : Arc) : Type 0 where
   pub input : x.input ≡ m.input
@@ -53,24 +51,19 @@ pub record RowOf (keys : List Triple) (ms : List Move) (row : List Arc) : Type 0
   pub count : length row ≡ length ms
   pub each : (k : ℕ) (m : Move) (x : Arc) → slice_get ms k ≡ Some m → slice_get row k ≡ Some x → Stands keys m x
 
--- Each move of the triple that is kept has its arc. One that is dropped leads to a triple that is lost.
-pub record RowAt (a b : Machine) (IsLost : Triple → Type 0) (keys : List Triple) (t : Triple) (row : List Arc) : Type 0 where
-  pub kept : List Move
-  pub dropped : List Move
-  pub all : IsPermutation (moves_from a b t) (kept ++ dropped)
-  pub arcs : RowOf keys kept row
-  pub lost : (k : ℕ) (m : Move) → slice_get dropped k ≡ Some m → IsLost (after m)
+-- each move of the triple has its arc
+pub record RowAt (a b : Machine) (keys : List Triple) (t : Triple) (row : List Arc) : Type 0 where
+  pub moves : List Move
+  pub all : IsPermutation (moves_from a b t) moves
+  pub arcs : RowOf keys moves row
 
--- no triple has two numbers
-abbrev pub Distinct : List Triple → Type 0
-Distinct keys = (i j : ℕ) (t : Triple) → slice_get keys i ≡ Some t → slice_get keys j ≡ Some t → i ≡ j
-
--- The states of m are the numbers of triples, one to one. Arcs and final weights are those of the triples; of the
--- moves, those that lead to dead triples may be dropped.
+-- The states of m are the numbers of the triples to which moves lead from the first one, one to one. Their arcs are the
+-- moves of the triples, and their final weights those of the triples.
 pub record IsComposition (a b m : Machine) : Type 0 where
   pub keys : List Triple
   pub distinct : Distinct keys
   pub count : length m.arcs ≡ length keys
   pub start : slice_get keys m.start ≡ Some (first_triple a b)
-  pub rows : (s : ℕ) (t : Triple) → slice_get keys s ≡ Some t → RowAt a b (IsDead a b) keys t (get_or m.arcs s [])
+  pub rows : (s : ℕ) (t : Triple) → slice_get keys s ≡ Some t → RowAt a b keys t (get_or m.arcs s [])
   pub ends : (s : ℕ) (t : Triple) → slice_get keys s ≡ Some t → final_of m.finals s ≡ end_of a b t
+  pub reached : (s : ℕ) → s < length keys → Leads m Every m.start s

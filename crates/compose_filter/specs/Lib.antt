@@ -1,5 +1,8 @@
+pub mod Steps
 pub mod Combinations
 pub mod ComposedPaths
 pub mod Compositions
-pub mod Sorted
+pub mod Readers
 pub mod Numbered
+pub mod Expansions
+pub mod Listings

@@ -1,22 +1,20 @@
 // The moves of two transducers from two of their states.
 
-ghost use Rattle.std.specs.Prelude.{◌≡◌, ◌==◌, ℕ, ◌+◌, ◌<◌, ◌^◌, ◌++◌, length, get_or, [], IfOk, OnOk, IsTrue, All};
-ghost use Rattle.std.specs.List.{filter, filter_map};
+ghost use Rattle.std.specs.Prelude.{◌≡◌, ◌+◌, ◌<◌, ◌^◌, length, get_or, [], IfOk, IsTrue, All};
 ghost use Rattle.std.specs.List.Sorted.{IsNonDecreasingBy};
-ghost use Rattle.weighted_relations.specs.declared.Arc.{Arc};
 ghost use Rattle.fst_core.specs.Top.{top_of};
-ghost use Rattle.compose_filter.specs.Combinations.{joint, first_alone, second_alone, all_joint, combinations};
-ghost use Rattle.compose_filter.specs.Sorted.{HasReaders, Fit};
+ghost use Rattle.compose_filter.specs.Combinations.{combinations};
+ghost use Rattle.compose_filter.specs.Readers.{Fit};
 
 use crate::filters::{Filter, Move, Taken};
-use fst_core::{Arc, Fst};
+use crate::steps::{Joining, Step, add_both, add_first, add_second};
+use fst_core::{Arc, Fst, is_sorted_row};
 use std::alloc::{AllocError, Global};
 
 /// The moves of what stands on the left, at its state `qa`, with the arcs of `b` at `qb`.
 ///
 /// `left` is the list of its own moves. Where the arcs of `b` at `qb` stand in the order of their inputs, those that
-/// read a label are found by a search; whether they do is seen in one pass. For many calls on one transducer
-/// `ByInput` has them in this order.
+/// read a label are found by a search; whether they do is seen in one pass.
 pub fn moves(
     alloc: Global,
     left: &[Arc],
@@ -30,7 +28,7 @@ pub fn moves(
     ensures exact { IfOk result (λ v. v.items ≡ combinations left.now qa (get_or b.now.arcs qb []) qb f) }
 {
     let row = b.arcs_of(qb);
-    let sorted = is_sorted(row);
+    let sorted = is_sorted_row(row);
     let found = all_moves(alloc, left, qa, row, qb, f, sorted)?;
     Ok(found)
 }
@@ -50,144 +48,74 @@ pub(crate) fn all_moves(
     ensures exact { IfOk result (λ v. v.items ≡ combinations left.now qa row.now qb f) }
 {
     let mut all = Vec::new(alloc);
-    add_all_joint(&mut all, left, row, sorted)?;
-    add_first(&mut all, left, qb, f)?;
-    add_second(&mut all, readers(row, 0, sorted), qa)?;
+    add_both(&mut all, &TwoStates, left, row, sorted)?;
+    add_first(&mut all, &TwoStates, left, qb, f)?;
+    add_second(&mut all, &TwoStates, &qa, row, sorted)?;
     Ok(all)
 }
 
-/// Whether the arcs stand in the order of their inputs.
-fn is_sorted(row: &[Arc]) -> bool
-    ensures { IsTrue result → IsNonDecreasingBy (λ y. y.input) row.now }
-{
-    row.is_sorted_by(|y, z| y.input <= z.input)
+/// Where two transducers are, and which of them has moved.
+#[derive(Clone, Copy)]
+pub struct Meeting {
+    pub qa: usize,
+    pub qb: usize,
+    pub filter: Filter,
+    pub taken: Taken,
 }
 
-/// The arcs that read a label, of arcs in the order of their inputs. It takes time in the logarithm of their number.
-pub fn reading(row: &[Arc], label: u16) -> &[Arc]
-    requires sorted { IsNonDecreasingBy (λ y. y.input) row.now }
-    ensures exact { result.now ≡ filter (λ y. y.input == label) row.now }
-{
-    let start = row.partition_point(|y| y.input < label);
-    let rest = &row[start..];
-    let count = rest.partition_point(|y| y.input <= label);
-    &rest[..count]
-}
+/// How the arcs of two states are joined.
+struct TwoStates;
 
-/// Arcs of the row among which are all that read the label: these alone, where the row is in order.
-fn readers(row: &[Arc], label: u16, sorted: bool) -> &[Arc]
-    requires sorted { IsTrue sorted → IsNonDecreasingBy (λ y. y.input) row.now }
-    ensures { HasReaders label row.now result.now }
-{
-    if sorted { reading(row, label) } else { row }
-}
+impl Joining for TwoStates {
+    ghost use Rattle.std.specs.Prelude.{ℕ};
+    ghost use Rattle.compose_filter.specs.Combinations.{arc_step, meeting, move_of};
+    ghost use Rattle.std.specs.Prelude.{◌≡◌};
 
-/// Both move.
-fn add_all_joint(
-    all: &mut Vec<Move>,
-    left: &[Arc],
-    row: &[Arc],
-    sorted: bool,
-) -> Result<(), AllocError>
-    requires sorted { IsTrue sorted → IsNonDecreasingBy (λ y. y.input) row.now }
-    requires fits { Fit left.now row.now }
-    ensures { OnOk result (all.new.items ≡ all.old.items ++ all_joint left.now row.now) }
-{
-    for x in left {
-        if x.output != 0 {
-            add_joint(all, x, readers(row, x.output, sorted))?;
-        }
-    }
-    Ok(())
-}
+    type Left = Arc;
 
-/// Both move, the first by this arc.
-fn add_joint(all: &mut Vec<Move>, x: &Arc, row: &[Arc]) -> Result<(), AllocError>
-    requires fits { All (λ y. x.now.weight + y.weight < 2 ^ 64) row.now }
-    ensures { OnOk result (all.new.items ≡ all.old.items ++ filter_map (joint x.now) row.now) }
-{
-    for y in row {
-        if let Some(m) = one_joint(x, y) {
-            all.push(m)?;
-        }
-    }
-    Ok(())
-}
+    type Place = usize;
 
-fn one_joint(x: &Arc, y: &Arc) -> Option<Move>
-    requires { x.now.weight + y.now.weight < 2 ^ 64 }
-    ensures { result ≡ joint x.now y.now }
-{
-    if x.output != 0 && x.output == y.input {
-        Some(Move {
+    type Next = Meeting;
+
+    type Joined = Move;
+
+    ghost step = { arc_step };
+
+    ghost pair = { λ j. meeting };
+
+    ghost made = { move_of };
+
+    ghost is_ready = { λ j. Unit {0} };
+
+    fn step(&self, x: &Arc) -> Step<usize> {
+        Step {
             input: x.input,
-            output: y.output,
-            weight: x.weight + y.weight,
-            qa: x.next,
-            qb: y.next,
-            filter: Filter::Open,
-            taken: Taken::Both,
-        })
-    } else {
-        None
-    }
-}
-
-/// The first moves alone.
-fn add_first(all: &mut Vec<Move>, left: &[Arc], qb: usize, f: Filter) -> Result<(), AllocError>
-    ensures { OnOk result (all.new.items ≡ all.old.items ++ filter_map (first_alone qb f) left.now) }
-{
-    for x in left {
-        if let Some(m) = one_first(x, qb, f) {
-            all.push(m)?;
-        }
-    }
-    Ok(())
-}
-
-fn one_first(x: &Arc, qb: usize, f: Filter) -> Option<Move>
-    ensures { result ≡ first_alone qb f x.now }
-{
-    match f {
-        Filter::Open if x.output == 0 => Some(Move {
-            input: x.input,
-            output: 0,
+            output: x.output,
             weight: x.weight,
-            qa: x.next,
-            qb,
-            filter: Filter::Open,
-            taken: Taken::First,
-        }),
-        _ => None,
-    }
-}
-
-/// The second moves alone.
-fn add_second(all: &mut Vec<Move>, row: &[Arc], qa: usize) -> Result<(), AllocError>
-    ensures { OnOk result (all.new.items ≡ all.old.items ++ filter_map (second_alone qa) row.now) }
-{
-    for y in row {
-        if let Some(m) = one_second(y, qa) {
-            all.push(m)?;
+            next: x.next,
         }
     }
-    Ok(())
-}
 
-fn one_second(y: &Arc, qa: usize) -> Option<Move>
-    ensures { result ≡ second_alone qa y.now }
-{
-    if y.input == 0 {
-        Some(Move {
-            input: 0,
-            output: y.output,
-            weight: y.weight,
-            qa,
-            qb: y.next,
-            filter: Filter::Closed,
-            taken: Taken::Second,
-        })
-    } else {
-        None
+    fn pair(&self, left: &usize, q: usize, filter: Filter, taken: Taken) -> Meeting {
+        Meeting {
+            qa: *left,
+            qb: q,
+            filter,
+            taken,
+        }
+    }
+
+    fn made(&self, s: Step<Meeting>) -> Move
+        ensures { result ≡ move_of s }
+    {
+        Move {
+            input: s.input,
+            output: s.output,
+            weight: s.weight,
+            qa: s.next.qa,
+            qb: s.next.qb,
+            filter: s.next.filter,
+            taken: s.next.taken,
+        }
     }
 }

@@ -9,7 +9,7 @@ use Rattle.weighted_relations.specs.Graphs.{stop, step, label}
 use Rattle.weighted_relations.specs.Machines.{Machine, Path, IsArc, From, Reads, final_of, ArcFits, WellFormed}
 use Rattle.fst_core.specs.Placed.{empty_arc}
 use Rattle.fst_core.specs.States.{States, with_state, as_machine}
-use Rattle.fst_core.specs.Turned.{turned, InRow, TurnedArcs, Below, IsTurned, HubRow}
+use Rattle.fst_core.specs.Turned.{turned, InRow, TurnedArcs, Below, HubRow}
 use Rattle.fst_core.proofs.Regions.{go}
 use Rattle.fst_core.proofs.Fits.{Fit, RowFits, state_fits}
 
@@ -136,24 +136,3 @@ module _ (p : Machine) (b : States) (hub : List Arc) (sound : WellFormed p) (tur
     λ h. from_hub h.1 refl,
     λ h. renamed (From (as_machine (length p.arcs) (with_state b hub None)) (length p.arcs)) (reverse-reverse x) (reverse-reverse y) refl (to_turned (reverse x) (reverse y) w h),
   )
-
-pub is_turned : (p : Machine) (b : States) (hub : List Arc) → WellFormed p → TurnedArcs p (Below (length p.arcs)) b.arcs → HubRow p (length p.arcs) hub → IsTurned p (as_machine (length p.arcs) (with_state b hub None))
-is_turned p b hub sound turns row = record {
-  back = λ s i a h.
-      let l : s < length p.arcs = (elim (cases_lt s (length p.arcs)) [
-        | inl l ↦ l
-        | inr l ↦ let e : None ≡ Some a = ap (λ r. slice_get r i) (sym (get_or_past p.arcs s [] l)) ∙ h in absurd (cc)
-      ]) in
-      let next = (sound.arcs s i a h).next in
-      subst (λ r. InRow r (turned s a)) (sym (get_or_append_left b.arcs (hub ∷ []) [] a.next (subst (λ n. a.next < n) (sym turns.count) next))) (turns.all s i a l h);
-  ends = λ s w h.
-      let l : s < length p.arcs = (elim (cases_lt s (length p.arcs)) [
-        | inl l ↦ l
-        | inr l ↦ let n : length p.finals ≡ length p.arcs = sound.finals in let e : None ≡ Some w = sym (get_or_past p.finals s None (omega arith)) ∙ h in absurd (cc)
-      ]) in
-      subst (λ r. InRow r (empty_arc w s)) (sym (get_or_push b.arcs hub [] (length p.arcs) turns.count)) (row.all s w l h);
-  count = length-append b.arcs (hub ∷ []) ∙ ap (λ n. n + 1) turns.count;
-  hub = refl;
-  only_back = λ t j a l h. turns.only t j a (ap (λ r. slice_get r j) (sym (get_or_append_left b.arcs (hub ∷ []) [] t (subst (λ n. t < n) (sym turns.count) l))) ∙ h);
-  only_ends = λ j a h. row.only j a (ap (λ r. slice_get r j) (sym (get_or_push b.arcs hub [] (length p.arcs) turns.count)) ∙ h);
-}

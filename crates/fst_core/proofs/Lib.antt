@@ -13,5 +13,13 @@ pub mod Backwards
 pub mod Tops
 pub mod Strings
 pub mod Searches
+pub mod Among
+pub mod Loops
+pub mod Readers
+pub mod Reordered
+pub mod ReorderedReadings
+pub mod Living
+pub mod Ranks
+pub mod KeptRows
 pub mod Uses
 pub mod EmptyInputs

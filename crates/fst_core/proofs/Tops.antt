@@ -12,10 +12,12 @@ use Rattle.weighted_relations.specs.Machines.{Machine, IsArc, final_of}
 use Rattle.fst_core.specs.Placed.{placed_final, empty_arc}
 use Rattle.fst_core.specs.States.{States, with_state, Adds, as_states, as_machine, no_states}
 use Rattle.fst_core.specs.Turned.{TurnedArcs, Below, HubRow}
-use Rattle.fst_core.specs.Useful.{RowKept}
+use Rattle.std.specs.List.{filter_map}
+use Rattle.fst_core.specs.Useful.{to_kept}
 use Rattle.fst_core.specs.Top.{greatest, row_top, top_of, Under}
 use Rattle.fst_core.proofs.Regions.{RowCase, row_cases}
 use Rattle.fst_core.proofs.Fits.{no_arc, no_end}
+use Rattle.fst_core.proofs.KeptRows.{row_only}
 use Rattle.fst_core.proofs.Branches.{Branches, empty_weight}
 
 module _ {A : Type 0} (f : A → ℕ) where
@@ -230,10 +232,10 @@ turned_top p m b hub start turns row count only built =
     omega arith) (λ w h. absurd (cc)))
 
 -- states that are kept
-pub kept_under : (p : Machine) (keep : List Bool) (s : ℕ) (b c : States) (made : List Arc) → Under (top_of p) b → length b.finals ≡ length b.arcs → RowKept keep (length (get_or p.arcs s [])) (get_or p.arcs s []) made → c ≡ with_state b made (final_of p.finals s) → Under (top_of p) c
+pub kept_under : (p : Machine) (keep : List Bool) (s : ℕ) (b c : States) (made : List Arc) → Under (top_of p) b → length b.finals ≡ length b.arcs → made ≡ filter_map (to_kept keep) (get_or p.arcs s []) → c ≡ with_state b made (final_of p.finals s) → Under (top_of p) c
 kept_under p keep s b c made had even row e =
     subst (Under (top_of p)) (sym e) (state_under (top_of p) b made (final_of p.finals s) even had (λ k a h.
-    let q = row.only k a h in
+    let q = row_only keep (get_or p.arcs s []) made k a row h in
     let w : q.1.weight ≤ top_of p = arc_below p s q.0 q.1 q.2 in
     let f : a.weight ≡ q.1.weight = ap (λ (z : Arc). z.weight) q.4 in
     omega arith) (λ w h. end_below p s w h))

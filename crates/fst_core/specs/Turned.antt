@@ -1,5 +1,5 @@
 -- Arcs turned round.
-use Rattle.std.specs.Prelude.{◌≡◌, ◌⊎◌, ℕ, ◌+◌, ◌<◌, List, [], length, get_or, Some, slice_get}
+use Rattle.std.specs.Prelude.{◌≡◌, ◌⊎◌, ℕ, ◌<◌, List, [], length, get_or, Some, slice_get}
 use Rattle.weighted_relations.specs.declared.Arc.{Arc}
 use Rattle.weighted_relations.specs.Machines.{Machine, IsArc, final_of}
 use Rattle.fst_core.specs.Placed.{empty_arc}
@@ -47,12 +47,3 @@ pub record OneFinal (at n : ℕ) (b : States) : Type 0 where
   pub none : (s j : ℕ) (a : Arc) → IsArc b.arcs s j a → ⊥
   pub is : at < n → final_of b.finals at ≡ Some 0
   pub only : (s w : ℕ) → final_of b.finals s ≡ Some w → (s ≡ at) × (w ≡ 0)
-
--- Exactly the arcs of p lead back in m, whose start is a state more that leads to exactly the final states.
-pub record IsTurned (p m : Machine) : Type 0 where
-  pub count : length m.arcs ≡ length p.arcs + 1
-  pub hub : m.start ≡ length p.arcs
-  pub back : (s i : ℕ) (a : Arc) → IsArc p.arcs s i a → InRow (get_or m.arcs a.next []) (turned s a)
-  pub ends : (s w : ℕ) → final_of p.finals s ≡ Some w → InRow (get_or m.arcs m.start []) (empty_arc w s)
-  pub only_back : (t j : ℕ) (b : Arc) → t < length p.arcs → IsArc m.arcs t j b → Source p t b
-  pub only_ends : (j : ℕ) (b : Arc) → IsArc m.arcs m.start j b → (s : ℕ) × (w : ℕ) × (final_of p.finals s ≡ Some w) × (b ≡ empty_arc w s)

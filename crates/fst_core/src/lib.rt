@@ -7,7 +7,7 @@
 //! greatest weights of what it is made of and of the weights that are written out.
 //!
 //! The definitions of this crate lie in `specs/`: `Top` (the greatest weight), `States` (what a `Builder` holds),
-//! `Reach` (what arcs lead to) and `Useful` (what trimming keeps). The others are of the crate's own parts.
+//! `Reach` (what arcs lead to), `Useful` (what trimming keeps) and `Sorted` (arcs in the order of their inputs). The others are of the crate's own parts.
 //!
 //! A call that fails, fails for want of memory alone. Each takes time in proportion to the size of what it is
 //! given and what it makes.
@@ -15,14 +15,18 @@
 
 mod bounds;
 mod builder;
+mod by_inputs;
 mod concats;
 mod crosses;
 mod empties;
 mod fst;
+mod lives;
+mod orders;
 mod parts;
 mod relabels;
 mod reverses;
 mod search;
+mod sharing;
 mod stars;
 mod texts;
 mod trims;
@@ -30,10 +34,13 @@ mod unions;
 mod weights;
 
 pub use builder::Builder;
+pub use by_inputs::ByInput;
 pub use concats::concat;
 pub use crosses::cross;
 pub use empties::reads_empty;
 pub use fst::Fst;
+pub use lives::live_states;
+pub use orders::{is_sorted_row, reading};
 pub use relabels::{Side2, invert, project};
 pub use reverses::reverse;
 pub use search::{Follow, Search, reached};
@@ -43,6 +50,3 @@ pub use trims::trim;
 pub use unions::union;
 pub use weighted_relations::Arc;
 pub use weights::weighted;
-
-#[cfg(test)]
-mod tests;

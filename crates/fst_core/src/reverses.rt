@@ -4,7 +4,7 @@ ghost use Rattle.std.specs.Prelude.{◌≡◌, ◌<◌, ◌+◌, ℕ, length, ge
 ghost use Rattle.fst_core.specs.Top.{top_of};
 ghost use Rattle.weighted_relations.specs.Relations.{Same, Reversed};
 ghost use Rattle.weighted_relations.specs.Machines.{Reads};
-ghost use Rattle.fst_core.specs.Turned.{TurnedArcs, Below, HubRow, OneFinal, IsTurned};
+ghost use Rattle.fst_core.specs.Turned.{TurnedArcs, Below, HubRow, OneFinal};
 
 use crate::builder::{Builder, empty};
 use crate::fst::Fst;
@@ -19,16 +19,6 @@ pub fn reverse(alloc: Global, a: &Fst) -> Result<Fst, AllocError>
     ensures readings { IfOk result (λ m. Same (Reads m) (Reversed (Reads a.now))) }
     ensures top { IfOk result (λ m. top_of m ≤ top_of a.now) }
 {
-    let m = turned_round(alloc, a)?;
-    Ok(m)
-}
-
-/// The same, with its arcs those of `a` turned round.
-pub(crate) fn turned_round(alloc: Global, a: &Fst) -> Result<Fst, AllocError>
-    ensures readings { IfOk result (λ m. Same (Reads m) (Reversed (Reads a.now))) }
-    ensures top { IfOk result (λ m. top_of m ≤ top_of a.now) }
-    ensures arcs { IfOk result (IsTurned a.now) }
-{
     let start = a.start();
     let n = a.len();
     let hub = hub_row(alloc, a)?;
@@ -41,7 +31,7 @@ pub(crate) fn turned_round(alloc: Global, a: &Fst) -> Result<Fst, AllocError>
 }
 
 /// The arcs of a state, turned round.
-fn turn(a: &Fst, s: usize, built: &mut Builder) -> Result<(), AllocError>
+pub(crate) fn turn(a: &Fst, s: usize, built: &mut Builder) -> Result<(), AllocError>
     requires state { s < length a.now.arcs }
     requires turned { TurnedArcs a.now (Below s) built.old.arcs }
     ensures turned { OnOk result (TurnedArcs a.now (Below (s + 1)) built.new.arcs) }
@@ -74,8 +64,8 @@ fn hub_row(alloc: Global, a: &Fst) -> Result<Vec<Arc>, AllocError>
     Ok(row)
 }
 
-/// States without arcs, of which one is final.
-fn one_final(alloc: Global, n: usize, at: usize) -> Result<Builder, AllocError>
+/// So many states without arcs, of which the one with this number is final, if there is one.
+pub(crate) fn one_final(alloc: Global, n: usize, at: usize) -> Result<Builder, AllocError>
     ensures { IfOk result (OneFinal at n) }
 {
     let mut built = Builder::new(alloc);

@@ -1,64 +1,70 @@
 // A transducer with no states that no reading needs.
 
-ghost use Rattle.std.specs.Prelude.{◌≡◌, ◌↔◌, ◌<◌, ◌≤◌, ℕ, length, get_or, slice_get, Some, IfOk, IsTrue};
-ghost use Rattle.std.specs.List.{Contains};
+ghost use Rattle.std.specs.Prelude.{◌≡◌, ◌↔◌, ◌⊎◌, ◌<◌, ◌≤◌, ℕ, length, get_or, slice_get, Some, IfOk, IsTrue};
+ghost use Rattle.std.specs.List.{Contains, filter_map};
 ghost use Rattle.fst_core.specs.Top.{top_of};
 ghost use Rattle.weighted_relations.specs.declared.Arc.{Arc};
 ghost use Rattle.weighted_relations.specs.Relations.{Same};
 ghost use Rattle.weighted_relations.specs.Machines.{Reads};
-ghost use Rattle.fst_core.specs.Useful.{IsKept, IsTrimmed, rank, RowKept, KeptStates};
+ghost use Rattle.fst_core.specs.Useful.{IsKept, IsTrimmed, IsTrimOf, rank, to_kept, KeptStates};
 
 use crate::builder::Builder;
 use crate::fst::Fst;
-use crate::reverses::turned_round;
+use crate::lives::live_states;
 use crate::search::{Follow, Search, reached};
-use crate::unions::no_reading;
 use std::alloc::{AllocError, Global};
 use weighted_relations::Arc;
 
 /// The same readings, by the states alone that paths from the start to a final state go through.
 ///
-/// The start stays, also where there is no path. After Mohri's survey "Weighted automata algorithms" (2009):
-/// one search from the start, and one backwards from the final states.
+/// The start stays, also where there is no path. The states that are kept stay in their order, with their arcs to one
+/// another. After Mohri's survey "Weighted automata algorithms" (2009): one search from the start, and one backwards
+/// from the final states.
 pub fn trim(alloc: Global, a: &Fst) -> Result<Fst, AllocError>
     ensures readings { IfOk result (λ m. Same (Reads m) (Reads a.now)) }
     ensures top { IfOk result (λ m. top_of m ≤ top_of a.now) }
     ensures states { IfOk result IsTrimmed }
+    ensures kept { IfOk result (IsTrimOf a.now) }
 {
+    let _start = a.start();
     let ahead = reached(alloc, a, Follow::Every)?;
-    let back = turned_round(alloc, a)?;
-    let behind = reached(alloc, &back, Follow::Every)?;
-    let keep = both(alloc, a.len(), &ahead, &behind)?;
-    if keep[a.start()] {
-        let m = kept_states(alloc, a, &keep)?;
-        Ok(m)
-    } else {
-        let m = no_reading(alloc)?;
-        Ok(m)
-    }
+    let live = live_states(alloc, a)?;
+    let keep = marks(alloc, a, &ahead, &live)?;
+    let m = kept_states(alloc, a, &keep)?;
+    Ok(m)
 }
 
-/// Marks of the first n states that both searches found.
-fn both(alloc: Global, n: usize, ahead: &Search, behind: &Search) -> Result<Vec<bool>, AllocError>
-    requires ahead { n ≤ ahead.now.size }
-    requires behind { n ≤ behind.now.size }
-    ensures count { IfOk result (λ v. length v.items ≡ n) }
-    ensures marks { IfOk result (λ v. (s : ℕ) → s < n → IsKept v.items s ↔ (Contains ahead.now.states s × Contains behind.now.states s)) }
+/// Marks of the start and of the states that both searches found.
+fn marks(alloc: Global, a: &Fst, ahead: &Search, live: &Search) -> Result<Vec<bool>, AllocError>
+    requires ahead { length a.now.arcs ≤ ahead.now.size }
+    requires live { length a.now.arcs ≤ live.now.size }
+    ensures count { IfOk result (λ v. length v.items ≡ length a.now.arcs) }
+    ensures marks { IfOk result (λ v. (s : ℕ) → s < length a.now.arcs → IsKept v.items s ↔ ((s ≡ a.now.start) ⊎ (Contains ahead.now.states s × Contains live.now.states s))) }
 {
+    let start = a.start();
     let mut marks = Vec::new(alloc);
-    for s in 0..n {
-        marks.push(both_have(ahead, behind, s))?;
+    for s in 0..a.len() {
+        marks.push(is_kept(start, ahead, live, s))?;
     }
     Ok(marks)
 }
 
-/// Whether both searches found a state.
-fn both_have(ahead: &Search, behind: &Search, s: usize) -> bool
+/// Whether a state is the start, or both searches found it.
+fn is_kept(start: usize, ahead: &Search, live: &Search, s: usize) -> bool
     requires ahead { s < ahead.now.size }
-    requires behind { s < behind.now.size }
-    ensures found { IsTrue result ↔ (Contains ahead.now.states s × Contains behind.now.states s) }
+    requires live { s < live.now.size }
+    ensures kept { IsTrue result ↔ ((s ≡ start) ⊎ (Contains ahead.now.states s × Contains live.now.states s)) }
 {
-    ahead.has(s) && behind.has(s)
+    s == start || both_have(ahead, live, s)
+}
+
+/// Whether both searches found a state.
+fn both_have(ahead: &Search, live: &Search, s: usize) -> bool
+    requires ahead { s < ahead.now.size }
+    requires live { s < live.now.size }
+    ensures found { IsTrue result ↔ (Contains ahead.now.states s × Contains live.now.states s) }
+{
+    ahead.has(s) && live.has(s)
 }
 
 /// The numbers that the kept states get.
@@ -87,7 +93,7 @@ fn kept_row(
     requires count { length ranks.now ≡ length keep.now }
     requires ranks { (s : ℕ) → s < length keep.now → get_or ranks.now s 0 ≡ rank keep.now s }
     requires within { (i : ℕ) (a : Arc) → slice_get row.now i ≡ Some a → a.next < length keep.now }
-    ensures { IfOk result (λ v. RowKept keep.now (length row.now) row.now v.items) }
+    ensures { IfOk result (λ v. v.items ≡ filter_map (to_kept keep.now) row.now) }
 {
     let mut arcs = Vec::new(alloc);
     for a in row {

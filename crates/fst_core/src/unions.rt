@@ -1,6 +1,6 @@
 // The readings of several transducers together.
 
-ghost use Rattle.std.specs.Prelude.{◌≡◌, ◌≤◌, [], length, sum_by, IfOk};
+ghost use Rattle.std.specs.Prelude.{◌≤◌, sum_by, IfOk};
 ghost use Rattle.fst_core.specs.Top.{top_of};
 ghost use Rattle.weighted_relations.specs.Relations.{Same, AnyOf};
 ghost use Rattle.weighted_relations.specs.Machines.{Reads};
@@ -25,16 +25,4 @@ pub fn union(alloc: Global, parts: &[Fst]) -> Result<Fst, AllocError>
     let hub = built.len();
     built.push(row, None)?;
     Ok(built.finish(hub))
-}
-
-/// The transducer with no reading.
-pub(crate) fn no_reading(alloc: Global) -> Result<Fst, AllocError>
-    ensures readings { IfOk result (λ m. Same (Reads m) (AnyOf Reads [])) }
-    ensures start { IfOk result (λ m. m.start ≡ 0) }
-    ensures alone { IfOk result (λ m. length m.arcs ≡ 1) }
-    ensures top { IfOk result (λ m. top_of m ≤ 0) }
-{
-    let mut built = Builder::new(alloc);
-    built.push(Vec::new(alloc), None)?;
-    Ok(built.finish(0))
 }

@@ -1,8 +1,9 @@
 //! Transducers of expressions.
 
-ghost use Rattle.std.specs.Prelude.{◌≡◌, ◌≤◌, ◌<◌, ◌^◌, IfOk, IfErr, OnOk, List, [], ◌∷◌, ◌++◌, map, sum_by};
+ghost use Rattle.std.specs.Prelude.{◌≡◌, ◌+◌, ◌≤◌, ◌<◌, ◌^◌, IfOk, IfErr, OnOk, List, [], ◌∷◌, ◌++◌, map, sum_by};
 ghost use Rattle.fst_core.specs.Top.{top_of};
-ghost use Rattle.weighted_relations.specs.Relations.{Same};
+ghost use Rattle.fst_core.specs.Useful.{IsTrimmed};
+ghost use Rattle.weighted_relations.specs.Relations.{Same, Composed};
 ghost use Rattle.weighted_relations.specs.Machines.{Reads};
 ghost use Rattle.weighted_relations.specs.Expressions.{Expression, Rel, RelAny, MeetsKinds, MeetKinds, literals, all_literals, members};
 ghost use Rattle.weighted_relations.specs.ExpressionLaws.{Alike};
@@ -16,10 +17,12 @@ use crate::lexicons::{entry_of, united};
 use acceptor_ops::{determinise, minus};
 use compose_filter::compose;
 use core_expressions::{Expr, Mode, RewriteOf, Side};
-use fst_core::{Fst, Side2, concat, cross, invert, project, reads_empty, star, text, weighted};
+use fst_core::{
+    Fst, Side2, concat, cross, invert, project, reads_empty, star, text, trim, weighted,
+};
 use lexicon_trees::Entry;
 use rewrite_rules::{RewriteMode, rewrite};
-use std::alloc::Global;
+use std::alloc::{AllocError, Global};
 
 /// A transducer with exactly the readings of the expression.
 ///
@@ -50,7 +53,7 @@ pub fn build(alloc: Global, e: &Expr) -> Result<Fst, BuildFault>
         Expr::Compose(a, b) => {
             let first = build(alloc, a)?;
             let second = build(alloc, b)?;
-            Ok(compose(alloc, &first, &second)?)
+            Ok(composed(alloc, &first, &second)?)
         }
         Expr::Minus(a, b) => {
             let all = build(alloc, a)?;
@@ -140,6 +143,18 @@ fn build_rewrite(alloc: Global, r: &RewriteOf) -> Result<Fst, BuildFault>
     }
     let mode = mode_of(r.mode);
     Ok(rewrite(alloc, &tau, &left, &right, &sigma, mode)?)
+}
+
+/// The composition, without the states that no reading needs.
+fn composed(alloc: Global, first: &Fst, second: &Fst) -> Result<Fst, AllocError>
+    requires fits { top_of first.now + top_of second.now < 2 ^ 54 }
+    ensures readings { IfOk result (λ m. Same (Reads m) (Composed (Reads first.now) (Reads second.now))) }
+    ensures top { IfOk result (λ m. top_of m ≤ top_of first.now + top_of second.now) }
+    ensures states { IfOk result IsTrimmed }
+{
+    let all = compose(alloc, first, second)?;
+    let m = trim(alloc, &all)?;
+    Ok(m)
 }
 
 /// The same side in the words for transducers.

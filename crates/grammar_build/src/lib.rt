@@ -9,8 +9,6 @@
 mod builds;
 mod faults;
 mod lexicons;
-#[cfg(test)]
-mod tests;
 
 pub use builds::build;
 pub use faults::BuildFault;

@@ -1,7 +1,6 @@
 pub mod Letters
 pub mod Walks
 pub mod Heaps
-pub mod Keys
 pub mod Products
 pub mod Noting
 pub mod Waiters
@@ -12,9 +11,3 @@ pub mod Stops
 pub mod Turns
 pub mod Rounds
 pub mod Wholes
-pub mod Compare
-pub mod Scans
-pub mod Growing
-pub mod Running
-pub mod Marks
-pub mod Ones

@@ -1,5 +1,5 @@
 -- A node's number, and how it stands.
-use Rattle.std.proofs.Common.{◌≡◌, ◌≢◌, ◌<◌, ◌≤◌, ℕ, ◌+◌, List, [], ◌∷◌, ◌++◌, Some, slice_get, get_or, set, length, arith, refl, sym, ap, ◌∙◌, subst, inl, inr, length-append}
+use Rattle.std.proofs.Common.{◌≡◌, ◌≢◌, ◌<◌, ◌≤◌, ℕ, ◌+◌, List, [], ◌∷◌, ◌++◌, Some, set, length, arith, refl, sym, ap, ◌∙◌, inl, inr, length-append}
 use Rattle.std.proofs.lemmas.Bool.{cases_lt, cases_eq}
 use Rattle.std.proofs.lemmas.List.{get_or_append_left, get_or-append-add, get_or_past, get_or-set_same, get_or-set_other}
 use Rattle.std.proofs.lemmas.List.Sums.{sum_by-append, sum_by-set}
@@ -8,25 +8,9 @@ use Rattle.least_path.specs.declared.node.Node.{Node}
 use Rattle.least_path.specs.declared.queue.Entry.{Entry}
 use Rattle.least_path.specs.declared.standings.Standing.{Standing}
 use Rattle.least_path.specs.declared.standings.Standing.TheVariants.{Unmet, Met, Settled}
-use Rattle.least_path.specs.Numbers.{IsApart}
+use Rattle.state_table.specs.Numbers.{Distinct, Numbers}
+use Rattle.state_table.proofs.Numbering.{numbers_keeps, numbers_next, numbers_known, keeps_more, kept_at, fresh_at}
 use Rattle.least_path.specs.Standings.{Noted, standing_of, settled_one, settled_count}
-
-get_left : (xs ys : List Node) (k : ℕ) (m : Node) → slice_get xs k ≡ Some m → slice_get (xs ++ ys) k ≡ Some m
-get_left xs ys k m h =
-    let l : k < length xs = slice_get_within xs k m h in
-    let all : length (xs ++ ys) ≡ length xs + length ys = length-append xs ys in
-    let l' : k < length (xs ++ ys) = omega arith in
-    slice_get-get_or (xs ++ ys) k m l' ∙ ap Some (get_or_append_left xs ys m k l ∙ get_or_from_slice_get xs k m m h)
-
-get_back : (xs ys : List Node) (k : ℕ) (m : Node) → slice_get (xs ++ ys) k ≡ Some m → k < length xs → slice_get xs k ≡ Some m
-get_back xs ys k m h l = slice_get-get_or xs k m l ∙ ap Some (sym (get_or_append_left xs ys m k l) ∙ get_or_from_slice_get (xs ++ ys) k m m h)
-
-last_one : (xs : List Node) (n : Node) (k : ℕ) (m : Node) → slice_get (xs ++ n ∷ []) k ≡ Some m → length xs ≤ k → m ≡ n
-last_one xs n k m h l =
-    let w : k < length (xs ++ n ∷ []) = slice_get_within (xs ++ n ∷ []) k m h in
-    let all : length (xs ++ n ∷ []) ≡ length xs + 1 = length-append xs (n ∷ []) in
-    let at : k ≡ length xs + 0 = omega arith in
-    sym (get_or_from_slice_get (xs ++ n ∷ []) k m m h) ∙ ap (λ t. get_or (xs ++ n ∷ []) t m) at ∙ get_or-append-add xs (n ∷ []) 0 m
 
 -- an unmet node more changes no standing
 unmet_more : (xs : List Standing) (k : ℕ) → standing_of (xs ++ Unmet ∷ []) k ≡ standing_of xs k
@@ -44,34 +28,38 @@ unmet_more xs k = elim (cases_lt k (length xs)) [
 unmet_count : (xs : List Standing) → settled_count (xs ++ Unmet ∷ []) ≡ settled_count xs
 unmet_count xs = let e : settled_count (xs ++ Unmet ∷ []) ≡ settled_count xs + 0 = sum_by-append settled_one xs (Unmet ∷ []) in omega arith
 
-pub noted_known : (old new : List Node) (standings : List Standing) (n : Node) (i : ℕ) → slice_get new i ≡ Some n → IsApart new → new ≡ old → length standings ≡ length old → Noted old new standings standings n i
-noted_known old new standings n i number apart same even = record {
-  number = number;
-  apart = apart;
-  even = even ∙ ap length (sym same);
-  stays = λ k m h. subst (λ xs. slice_get xs k ≡ Some m) (sym same) h;
-  only = λ k m h l. subst (λ xs. slice_get xs k ≡ Some m) same h;
-  longer = (let e : length new ≡ length old = ap length same in omega arith);
-  new_one = λ k m h l. (let w : k < length new = slice_get_within new k m h in let e : length new ≡ length old = ap length same in absurd (omega arith));
-  same = λ k. refl;
-  count = refl;
-}
+-- a node that was numbered, where its number is not the next, and where it is
+module _ (old new : List Node) (standings : List Standing) (n : Node) (i : ℕ) (is : Numbers old new n i) (apart : Distinct new) (even : length standings ≡ length old) where
+  none_new : i ≢ length standings → new ≡ old
+  none_new other = elim (cases_lt i (length old)) [
+    | inl l ↦ numbers_known is apart l
+    | inr m ↦ elim is.added [
+      | inl e ↦ e
+      | inr e ↦ absurd (other (let w : i < length new = slice_get_within new i n is.stored in let all : length new ≡ length old + 1 = ap length e ∙ length-append old (n ∷ []) in omega arith))
+    ]
+  ]
 
-pub noted_new : (old new : List Node) (standings standings' : List Standing) (n : Node) (i : ℕ) → slice_get new i ≡ Some n → IsApart new → new ≡ old ++ n ∷ [] → standings' ≡ standings ++ Unmet ∷ [] → length standings ≡ length old → Noted old new standings standings' n i
-noted_new old new standings standings' n i number apart more marked even =
-    let a : length new ≡ length old + 1 = ap length more ∙ length-append old (n ∷ []) in
-    let b : length standings' ≡ length standings + 1 = ap length marked ∙ length-append standings (Unmet ∷ []) in
-    record {
-      number = number;
-      apart = apart;
-      even = omega arith;
-      stays = λ k m h. subst (λ xs. slice_get xs k ≡ Some m) (sym more) (get_left old (n ∷ []) k m h);
-      only = λ k m h l. get_back old (n ∷ []) k m (subst (λ xs. slice_get xs k ≡ Some m) more h) l;
-      longer = omega arith;
-      new_one = λ k m h l. last_one old n k m (subst (λ xs. slice_get xs k ≡ Some m) more h) l;
-      same = λ k. ap (λ xs. standing_of xs k) marked ∙ unmet_more standings k;
-      count = ap settled_count marked ∙ unmet_count standings;
-    }
+  noted : (standings' : List Standing) → length standings' ≡ length new → ((k : ℕ) → standing_of standings' k ≡ standing_of standings k) → settled_count standings' ≡ settled_count standings → Noted old new standings standings' n i
+  noted standings' marked same count = record {
+    number = is.stored;
+    apart = apart;
+    even = marked;
+    stays = (numbers_keeps is).kept;
+    only = λ k m h l. slice_get-get_or old k m l ∙ ap Some (sym (kept_at m (numbers_keeps is) k l) ∙ get_or_from_slice_get new k m m h);
+    longer = keeps_more (numbers_keeps is);
+    new_one = λ k m h l. sym (get_or_from_slice_get new k m m h) ∙ fresh_at is m k l (slice_get_within new k m h);
+    same = same;
+    count = count;
+  }
+
+  pub noted_known : i ≢ length standings → Noted old new standings standings n i
+  noted_known other = noted standings (even ∙ ap length (sym (none_new other))) (λ k. refl) refl
+
+  pub noted_new : (standings' : List Standing) → i ≡ length standings → standings' ≡ standings ++ Unmet ∷ [] → Noted old new standings standings' n i
+  noted_new standings' next marked =
+      let a : length new ≡ length old + 1 = ap length (numbers_next is (next ∙ even)) ∙ length-append old (n ∷ []) in
+      let b : length standings' ≡ length standings + 1 = ap length marked ∙ length-append standings (Unmet ∷ []) in
+      noted standings' (omega arith) (λ k. ap (λ xs. standing_of xs k) marked ∙ unmet_more standings k) (ap settled_count marked ∙ unmet_count standings)
 
 -- what isn't unmet is within
 pub met_within : (xs : List Standing) (k : ℕ) (s : Standing) → s ≢ Unmet → standing_of xs k ≡ s → k < length xs

@@ -94,3 +94,11 @@ module _ (E : Edges Node) (s : Node) where
         (λ n v x h. grown.stays (record { node = n; weight = v; output = x }) h)
         (λ n u z k. grown.covered n u z k)
         (λ n v x h. grown.sound (record { node = n; weight = v; output = x }) h)
+
+-- the node of the taken entry, as it is read afterwards
+module _ (old taken : Search) (e : Entry) (is : IsTaken old taken e) where
+  pub taken_within : e.node < length taken.nodes
+  taken_within = subst (λ ns. e.node < length ns) (sym is.nodes) is.place
+
+  pub taken_at : (n : Node) → slice_get taken.nodes e.node ≡ Some n → get_or old.nodes e.node End ≡ n
+  taken_at n h = ap (λ ns. get_or ns e.node End) (sym is.nodes) ∙ get_or_from_slice_get taken.nodes e.node n End h

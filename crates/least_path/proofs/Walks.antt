@@ -32,6 +32,17 @@ walk_end all a b x y below e w =
     let k = below_same (text_of all x) w.first_more w.second_more in
     rw (w.first, second) (λ h. k.1 (w.says.0 h), λ h. w.says.1 (k.0 h))
 
+-- a letter that is there, and the output before it
+module _ (letters : List Letter) (x : ℕ) (some : 0 < x) (known : x < length (texts letters)) where
+  pub letter_within : x - 1 < length letters
+  letter_within = let n = texts_length letters in omega arith
+
+  pub before_less : IsMade letters → (d p : Letter) → p ≡ get_or letters (x - 1) d → p.before < x
+  before_less made d p is =
+      let h : (get_or letters (x - 1) d).before < (x - 1) + 1 = made (x - 1) d letter_within in
+      let k : p.before ≡ (get_or letters (x - 1) d).before = ap (λ (l : Letter). l.before) is in
+      omega arith
+
 module _ (letters : List Letter) (made : IsMade letters) (a b x y : ℕ) (below : Bool) (w : Walked (texts letters) a b x y below) (apart : x ≢ y) (d e : Letter) where
   above : (u v : ℕ) → length (text_of (texts letters) u) ≡ length (text_of (texts letters) v) → v < length (texts letters) → u ≢ v → u ≡ 0 → ⊥
   above u v len within ne z =

@@ -12,7 +12,7 @@ use Rattle.least_path.specs.declared.standings.Standing.TheVariants.{Met, Settle
 use Rattle.least_path.specs.declared.reaching.Search.{Search}
 use Rattle.least_path.specs.Texts.{text_of, Grows}
 use Rattle.least_path.specs.Waiting.{Fits, IsHeap}
-use Rattle.least_path.specs.Numbers.{IsApart}
+use Rattle.state_table.specs.Numbers.{Distinct}
 use Rattle.least_path.specs.Standings.{standing_of, settled_count}
 
 -- an entry as the laws of searches see it
@@ -26,7 +26,7 @@ abbrev pub IsSettled : Search → Node → Type 0
 IsSettled s n = (k : ℕ) × (slice_get s.nodes k ≡ Some n) × (standing_of s.standings.items k ≡ Settled)
 
 pub record Kept (s : Search) : Type 0 where
-  pub apart : IsApart s.nodes
+  pub apart : Distinct s.nodes
   pub even : length s.standings.items ≡ length s.nodes
   pub places : All (λ e. e.node < length s.nodes) s.queue.items
   pub fits : All (Fits s.outputs) s.queue.items

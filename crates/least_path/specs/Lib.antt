@@ -3,10 +3,7 @@ pub mod Texts
 pub mod Waiting
 pub mod Mixing
 pub mod SameNodes
-pub mod Numbers
 pub mod Products
 pub mod Standings
 pub mod Keeps
 pub mod Growths
-pub mod Entries
-pub mod Growth

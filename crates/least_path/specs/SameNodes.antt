@@ -2,7 +2,7 @@
 use Rattle.std.specs.Prelude.{◌≡◌, ℕ, List, [], ◌∷◌, Bool, true, false, ◌&&◌, IsTrue}
 use Rattle.std.specs.Hash as fed
 use Rattle.std.proofs.Common.{refl, ap, ◌∙◌, eqb}
-use Rattle.std.proofs.lemmas.Bool.{eqb-true, eq-eqb, false≢true}
+use Rattle.std.proofs.lemmas.Bool.{eqb-true, false≢true}
 use lib.Pointwise.{pointwise}
 use Rattle.least_path.specs.declared.node.Node.{Node}
 use Rattle.least_path.specs.declared.node.Node.TheVariants.{At, End}
@@ -13,9 +13,6 @@ both_parts : (s t : Bool) → (s && t) ≡ true → (s ≡ true) × (t ≡ true)
 both_parts true t h = (refl, h)
 both_parts false t h = absurd (false≢true h)
 
-both : (s t : Bool) → s ≡ true → t ≡ true → (s && t) ≡ true
-both s t h k = ap (λ x. x && t) h ∙ k
-
 list_same : (xs ys : List ℕ) → pointwise eqb xs ys ≡ true → xs ≡ ys
 list_same [] [] h = refl
 list_same [] (y ∷ ys) h = absurd (false≢true h)
@@ -23,10 +20,6 @@ list_same (x ∷ xs) [] h = absurd (false≢true h)
 list_same (x ∷ xs) (y ∷ ys) h =
     let p = both_parts (eqb x y) (pointwise eqb xs ys) h in
     ap (λ t. t ∷ xs) (eqb-true x y p.0) ∙ ap (λ t. y ∷ t) (list_same xs ys p.1)
-
-list_itself : (xs : List ℕ) → pointwise eqb xs xs ≡ true
-list_itself [] = refl
-list_itself (x ∷ xs) = both (eqb x x) (pointwise eqb xs xs) (eq-eqb x x refl) (list_itself xs)
 
 pub node_same : (a b : Node) → (node.eq-value).it a b ≡ true → a ≡ b
 node_same End End h = refl
@@ -40,10 +33,6 @@ node_same (At q t) (At r u) h =
     ∙ ap (λ n. At r (record { cascade = n; states = t.states; filters = t.filters })) (eqb-true t.cascade u.cascade c.0)
     ∙ ap (λ n. At r (record { cascade = u.cascade; states = n; filters = t.filters })) (list_same t.states u.states s.0)
     ∙ ap (λ n. At r (record { cascade = u.cascade; states = u.states; filters = n })) (eqb-true t.filters u.filters s.1)
-
-pub node_itself : (a : Node) → (node.eq-value).it a a ≡ true
-node_itself End = refl
-node_itself (At q t) = both (eqb q q) (eqb t.cascade t.cascade && (pointwise eqb t.states t.states && eqb t.filters t.filters)) (eq-eqb q q refl) (both (eqb t.cascade t.cascade) (pointwise eqb t.states t.states && eqb t.filters t.filters) (eq-eqb t.cascade t.cascade refl) (both (pointwise eqb t.states t.states) (eqb t.filters t.filters) (list_itself t.states) (eq-eqb t.filters t.filters refl)))
 
 pub mixed_alike : (a b : Node) → IsTrue ((node.eq-value).it a b) → fed.u64 (mix_of a) ≡ fed.u64 (mix_of b)
 mixed_alike a b h = ap (λ n. fed.u64 (mix_of n)) (node_same a b h)

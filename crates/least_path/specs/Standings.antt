@@ -3,7 +3,7 @@ use Rattle.std.specs.Prelude.{◌≡◌, ◌⊎◌, ◌<◌, ◌≤◌, ℕ, Lis
 use Rattle.least_path.specs.declared.node.Node.{Node}
 use Rattle.least_path.specs.declared.standings.Standing.{Standing}
 use Rattle.least_path.specs.declared.standings.Standing.TheVariants.{Unmet, Met, Settled}
-use Rattle.least_path.specs.Numbers.{IsApart}
+use Rattle.state_table.specs.Numbers.{Distinct}
 
 abbrev pub standing_of : List Standing → ℕ → Standing
 standing_of standings k = slice_index_or standings k Unmet
@@ -26,7 +26,7 @@ Passes Settled weight length = Unit {0}
 -- a node has this number, and stands as before, or is unmet where it is new
 pub record Noted (old new : List Node) (standings standings' : List Standing) (n : Node) (i : ℕ) : Type 0 where
   pub number : slice_get new i ≡ Some n
-  pub apart : IsApart new
+  pub apart : Distinct new
   pub even : length standings' ≡ length new
   pub stays : (k : ℕ) (m : Node) → slice_get old k ≡ Some m → slice_get new k ≡ Some m
   pub only : (k : ℕ) (m : Node) → slice_get new k ≡ Some m → k < length old → slice_get old k ≡ Some m

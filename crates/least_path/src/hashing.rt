@@ -1,12 +1,17 @@
-// What is hashed of a node.
+// Nodes as keys, and what is hashed of them.
 
 ghost use Rattle.std.specs.Prelude.{◌≡◌};
 ghost use Rattle.std.specs.Hash as fed;
 ghost use Rattle.least_path.specs.Mixing.{mix_of, mixed};
-ghost use Rattle.least_path.specs.SameNodes.{mixed_alike};
+ghost use Rattle.least_path.specs.SameNodes.{mixed_alike, node_same};
 
 use crate::node::Node;
+use state_table::Key;
 use std::hash::{Hash, Hasher};
+
+impl Key for Node {
+    ghost same = { node_same };
+}
 
 impl Hash for Node {
     ghost hash_input = { λ n. fed.u64 (mix_of n) };

@@ -70,12 +70,11 @@ impl Outputs {
         Ok(number)
     }
 
-    /// Whether an output is no greater than another of the same length.
+    /// Whether an output is no greater than another, where both have one length.
     pub fn is_below(&self, a: usize, b: usize) -> bool
         requires first { a < length self.now }
         requires second { b < length self.now }
-        requires even { length (text_of self.now a) ≡ length (text_of self.now b) }
-        ensures { IsTrue result ↔ BytesBelow (text_of self.now a) (text_of self.now b) }
+        ensures { length (text_of self.now a) ≡ length (text_of self.now b) → IsTrue result ↔ BytesBelow (text_of self.now a) (text_of self.now b) }
     {
         is_below(&self.letters, a, b)
     }
@@ -148,18 +147,20 @@ fn find(letters: &[Letter], links: &[Link], at: usize, label: u16) -> Option<usi
     None
 }
 
-/// Whether an output is no greater than another of the same length.
+/// Whether an output is no greater than another, where both have one length.
 fn is_below(letters: &[Letter], a: usize, b: usize) -> bool
     requires made { IsMade letters.now }
     requires first { a < length (texts letters.now) }
     requires second { b < length (texts letters.now) }
-    requires even { length (text_of (texts letters.now) a) ≡ length (text_of (texts letters.now) b) }
-    ensures { IsTrue result ↔ BytesBelow (text_of (texts letters.now) a) (text_of (texts letters.now) b) }
+    ensures { length (text_of (texts letters.now) a) ≡ length (text_of (texts letters.now) b) → IsTrue result ↔ BytesBelow (text_of (texts letters.now) a) (text_of (texts letters.now) b) }
 {
     let mut x = a;
     let mut y = b;
     let mut below = true;
     while x != y {
+        if x == 0 || y == 0 {
+            return below;
+        }
         let left = letters[x - 1];
         let right = letters[y - 1];
         below = decide(left.label, right.label, below);

@@ -4,17 +4,17 @@ ghost use Rattle.std.specs.Prelude.{◌≡◌, ◌<◌, ◌+◌, ◌^◌, ◌∷
 ghost use Rattle.weighted_relations.specs.Graphs.{label as written};
 
 use crate::node::Node;
-use crate::nodes::Nodes;
 use crate::outputs::Outputs;
 use crate::queue::{Entry, pop, push};
 use crate::standings::{Standing, is_passed, is_settled, is_under, note};
+use state_table::StateTable;
 use state_tuples::{Tuple, TupleArc};
 use std::alloc::{AllocError, Global};
 
 /// The nodes met, how each stands, the outputs, and what waits.
 #[derive(Drop)]
 pub(crate) struct Search {
-    pub(crate) nodes: Nodes,
+    pub(crate) nodes: StateTable<Node>,
     pub(crate) standings: Vec<Standing>,
     pub(crate) outputs: Outputs,
     pub(crate) queue: Vec<Entry>,
@@ -34,7 +34,7 @@ impl Search {
         ensures queue { result.queue.items ≡ [] }
     {
         Search {
-            nodes: Nodes::new(alloc),
+            nodes: StateTable::new(alloc),
             standings: Vec::new(alloc),
             outputs: Outputs::new(alloc),
             queue: Vec::new(alloc),

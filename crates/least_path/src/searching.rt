@@ -43,7 +43,7 @@ pub fn least<X: Expander>(
     search.reach(Node::At(source.start(), *start), &nothing, 0, 0)?;
     let mut buffer = Vec::new(alloc);
     while let Some(entry) = search.next() {
-        match search.nodes.get(entry.node) {
+        match *search.nodes.key(entry.node) {
             Node::End => {
                 let labels = search.outputs.labels(alloc, entry.output)?;
                 return Ok(Some(Least {

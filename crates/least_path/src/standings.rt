@@ -6,9 +6,9 @@ ghost use Rattle.least_path.specs.declared.standings.Standing.TheVariants.{Met, 
 ghost use Rattle.least_path.specs.Waiting.{Before, Fits};
 
 use crate::node::Node;
-use crate::nodes::Nodes;
 use crate::outputs::Outputs;
 use crate::queue::{Entry, is_before};
+use state_table::StateTable;
 use std::alloc::AllocError;
 
 /// What is known of a node: nothing, the first of the ways to it that wait, or that its least way is found.
@@ -21,15 +21,15 @@ pub(crate) enum Standing {
 
 /// The number of a node, which is unmet where it is new.
 pub(crate) fn note(
-    nodes: &mut Nodes,
+    nodes: &mut StateTable<Node>,
     standings: &mut Vec<Standing>,
     node: Node,
 ) -> Result<usize, AllocError>
     requires { length standings.old.items ≡ length nodes.old }
     ensures { IfOk result (λ i. Noted nodes.old nodes.new standings.old.items standings.new.items node i) }
 {
-    let (number, is_new) = nodes.number(node)?;
-    if is_new {
+    let number = nodes.number(node)?;
+    if number == standings.len() {
         standings.push(Standing::Unmet)?;
     }
     Ok(number)

@@ -12,8 +12,6 @@
 mod entries;
 mod lexicons;
 mod rows;
-#[cfg(test)]
-mod tests;
 mod trees;
 
 pub use entries::Entry;

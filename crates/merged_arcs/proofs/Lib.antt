@@ -1,5 +1,7 @@
-pub mod Numbering
+pub mod Standing
+pub mod Parting
+pub mod Reaching
 pub mod Readings
 pub mod Gathering
-pub mod Merging
+pub mod Runs
 pub mod Building

@@ -3,30 +3,33 @@
 ghost use Rattle.std.specs.Prelude.{◌≡◌, ◌↔◌, ◌<◌, ◌≤◌, ℕ, length, get_or, IfOk, IsTrue, IsPermutation};
 ghost use Rattle.std.specs.List.{Contains};
 ghost use Rattle.weighted_relations.specs.declared.Arc.{Arc};
-ghost use Rattle.merged_arcs.specs.Merged.{Alike, IsArcOf, RowMade, Run, TargetIn, none};
+ghost use Rattle.std.specs.List.Sorted.{IsStrictlyIncreasing};
+ghost use Rattle.merged_arcs.specs.Merged.{Alike, AllApart, StandTogether, IsArcOf, RowMade, Run, TargetIn, none};
 
-use crate::subsets::Subsets;
 use fst_core::{Arc, Fst};
+use state_table::{StateSet, StateTable};
 use std::alloc::{AllocError, Global};
 
 /// Whether two arcs have the same labels and weight.
-pub(crate) fn alike(x: &Arc, y: &Arc) -> bool
+fn alike(x: &Arc, y: &Arc) -> bool
     ensures alike { IsTrue result ↔ Alike x.now y.now }
 {
     x.input == y.input && x.output == y.output && x.weight == y.weight
 }
 
 /// Puts arcs in such an order that those with the same labels and weight stand together.
-pub(crate) fn put_in_order(arcs: &mut Vec<Arc>)
+fn put_in_order(arcs: &mut Vec<Arc>)
     ensures order { IsPermutation arcs.old.items arcs.new.items }
+    ensures together { StandTogether arcs.new.items }
 {
-    arcs.sort_unstable_by_key(|y| (y.input, y.output, y.weight, y.next));
+    arcs.sort_unstable_by_key(|y| (y.input, y.output, y.weight));
 }
 
 /// The arcs of these states, in order.
 pub(crate) fn gathered(alloc: Global, a: &Fst, set: &[usize]) -> Result<Vec<Arc>, AllocError>
     requires within { (s : ℕ) → Contains set.now s → s < length a.now.arcs }
     ensures all { IfOk result (λ v. (y : Arc) → Contains v.items y ↔ IsArcOf a.now set.now y) }
+    ensures together { IfOk result (λ v. StandTogether v.items) }
 {
     let mut arcs = Vec::new(alloc);
     for s in set {
@@ -40,10 +43,12 @@ pub(crate) fn gathered(alloc: Global, a: &Fst, set: &[usize]) -> Result<Vec<Arc>
 /// are new get the next numbers.
 pub(crate) fn merged_row(
     alloc: Global,
-    sets: &mut Subsets,
+    sets: &mut StateTable<StateSet>,
     arcs: &[Arc],
 ) -> Result<Vec<Arc>, AllocError>
+    requires together { StandTogether arcs.now }
     ensures made { IfOk result (λ v. RowMade (Contains arcs.now) sets.old sets.new v.items) }
+    ensures apart { IfOk result (λ v. AllApart v.items) }
 {
     let mut row = Vec::new(alloc);
     let mut from = 0;
@@ -66,6 +71,7 @@ pub(crate) fn merged_row(
 fn run_end(arcs: &[Arc], from: usize) -> usize
     requires within { from < length arcs.now }
     ensures run { Run arcs.now from result }
+    ensures whole { result < length arcs.now → Alike (get_or arcs.now from none) (get_or arcs.now result none) → ⊥ }
 {
     let first = arcs[from];
     let mut to = from + 1;
@@ -75,16 +81,18 @@ fn run_end(arcs: &[Arc], from: usize) -> usize
     to
 }
 
-/// The states to which the arcs at these places lead. States that stand together are taken once.
-fn targets(alloc: Global, arcs: &[Arc], from: usize, to: usize) -> Result<Vec<usize>, AllocError>
+/// The states to which the arcs at these places lead, in order.
+fn targets(alloc: Global, arcs: &[Arc], from: usize, to: usize) -> Result<StateSet, AllocError>
     requires order { from ≤ to }
     requires within { to ≤ length arcs.now }
-    ensures all { IfOk result (λ v. (t : ℕ) → Contains v.items t ↔ TargetIn arcs.now from to t) }
+    ensures all { IfOk result (λ v. (t : ℕ) → Contains v t ↔ TargetIn arcs.now from to t) }
+    ensures order { IfOk result IsStrictlyIncreasing }
 {
     let mut found = Vec::new(alloc);
     for i in from..to {
         found.push(arcs[i].next)?;
     }
+    found.sort_unstable();
     found.dedup();
-    Ok(found)
+    Ok(StateSet::new(found))
 }

@@ -1,10 +1,8 @@
 -- The texts that the automata accept, from the transducers that they are made of.
-use Rattle.std.proofs.Common.{◌≡◌, ◌↔◌, ◌⊎◌, ℕ, ◌+◌, List, [], ◌∷◌, ◌++◌, refl, sym, ◌∙◌, ap, subst, inl, inr, append-nil, arith}
+use Rattle.std.proofs.Common.{◌≡◌, ◌↔◌, ℕ, ◌+◌, List, [], ◌∷◌, ◌++◌, refl, sym, ◌∙◌, ap, subst, inl, inr, append-nil}
 use Rattle.std.specs.Prelude.{All, reverse}
 use Rattle.std.proofs.lemmas.List.{reverse-reverse}
-use Rattle.std.proofs.lemmas.List.Elements.{All-nil}
 use Rattle.weighted_relations.specs.Relations.{Relation, Same, Is, Joined, Either, Nothing, IsInput, IsLabel}
-use Rattle.weighted_relations.specs.RelationLaws.{same_refl, same_trans, same_either}
 use Rattle.acceptor_ops.specs.Tables.{Except}
 use Rattle.rewrite_rules.specs.AnyTexts.{AnyText}
 use Rattle.rewrite_rules.specs.Languages.{Heads, Fronts, LeftText, BackText}

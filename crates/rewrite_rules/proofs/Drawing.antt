@@ -1,18 +1,18 @@
 -- Arcs of moves, one after another.
-use Rattle.std.proofs.Common.{◌≡◌, ℕ, zero, suc, ◌+◌, ◌<◌, ◌≤◌, ◌⊎◌, ◌↔◌, List, [], ◌∷◌, ◌++◌, map, length, get_or, Some, refl, sym, ◌∙◌, ap, subst, arith, inl, inr, append-nil, append_assoc}
+use Rattle.std.proofs.Common.{◌≡◌, ℕ, zero, suc, ◌+◌, ◌<◌, ◌≤◌, ◌⊎◌, ◌↔◌, List, [], ◌∷◌, ◌++◌, map, length, get_or, Some, refl, sym, ◌∙◌, ap, subst, arith, inl, inr}
 use Rattle.std.specs.Prelude.{slice_get}
 use Rattle.std.specs.List.{Contains}
 use Rattle.std.proofs.lemmas.Bool.{cases_lt}
 use Rattle.std.proofs.lemmas.Option.{slice_get-get_or, slice_get_within, get_or_from_slice_get}
 use Rattle.std.proofs.lemmas.List.Elements.{Contains-get_or}
 use Rattle.weighted_relations.specs.declared.Arc.{Arc}
-use Rattle.rewrite_rules.specs.Numbered.{Keeps, Numbers}
+use Rattle.state_table.specs.Numbers.{Keeps, Numbers}
 use Rattle.rewrite_rules.specs.Steps.{Below, Listed, CopyTo, copy_step, copy_arc}
 use Rattle.rewrite_rules.specs.Drawn.{IsArcOf, Draws}
 use Rattle.rewrite_rules.specs.declared.arcs.Step.{Step}
 use Rattle.rewrite_rules.specs.declared.spots.Spot.{Spot}
 use Rattle.rewrite_rules.specs.declared.spots.Spot.TheVariants.{Hub}
-use Rattle.rewrite_rules.proofs.Numbering.{keeps_refl, keeps_trans}
+use Rattle.state_table.proofs.Numbering.{keeps_refl, keeps_trans, keeps_more, kept_at, numbers_keeps, numbers_within, stored_at, fresh_at}
 
 -- an element of two lists, one after the other
 pub got_append : {A : Type 0} (xs ys : List A) (k : ℕ) (a : A) → slice_get (xs ++ ys) k ≡ Some a → (slice_get xs k ≡ Some a) ⊎ ((j : ℕ) × (slice_get ys j ≡ Some a))
@@ -50,8 +50,8 @@ arc_kept old new x a k h = record {
   input = h.input;
   output = h.output;
   weight = h.weight;
-  within = let l : a.next < length old = h.within in let m : length old ≤ length new = k.more in omega arith;
-  next = k.kept a.next h.within ∙ h.next;
+  within = let l : a.next < length old = h.within in let m : length old ≤ length new = keeps_more k in omega arith;
+  next = kept_at Hub k a.next h.within ∙ h.next;
 }
 
 pub draws_none : (P : Step → Type 0) (spots : List Spot) (row : List Arc) → ((x : Step) → P x → ⊥) → Draws P spots spots row row
@@ -74,7 +74,7 @@ draws_same P Q old new row more h d = record {
 
 pub draws_then : (P Q : Step → Type 0) (a b c : List Spot) (r s t : List Arc) → Draws P a b r s → Draws Q b c s t → Draws (λ x. P x ⊎ Q x) a c r t
 draws_then P Q a b c r s t f g = record {
-  keeps = keeps_trans a b c f.keeps g.keeps;
+  keeps = keeps_trans f.keeps g.keeps;
   kept = λ k z e. g.kept k z (f.kept k z e);
   sound = λ k z e. elim (g.sound k z e) [
     | inl h ↦ elim (f.sound k z h) [ inl i ↦ inl i | inr (x, p, i) ↦ inr (x, inl p, arc_kept b c x z g.keeps i) ]
@@ -85,7 +85,7 @@ draws_then P Q a b c r s t f g = record {
     | inr q ↦ g.full x q
   ];
   only = λ k l m. elim (cases_lt k (length b)) [
-    | inl h ↦ let e = f.only k l h in (e.0, inl e.1, g.keeps.kept k h ∙ e.2)
+    | inl h ↦ let e = f.only k l h in (e.0, inl e.1, kept_at Hub g.keeps k h ∙ e.2)
     | inr h ↦ let e = g.only k h m in (e.0, inr e.1, e.2)
   ];
 }
@@ -93,18 +93,18 @@ draws_then P Q a b c r s t f g = record {
 -- the arcs of moves to one place
 draws_to : (P : Step → Type 0) (old new : List Spot) (row arcs : List Arc) (to : Spot) (n : ℕ) (one : Step) → Numbers old new to n → P one → one.to ≡ to → ((j : ℕ) (a : Arc) → slice_get arcs j ≡ Some a → (x : Step) × P x × IsArcOf new x a) → ((x : Step) → P x → (j : ℕ) × (a : Arc) × (slice_get arcs j ≡ Some a) × IsArcOf new x a) → Draws P old new row (row ++ arcs)
 draws_to P old new row arcs to n one m p at sound full = record {
-  keeps = m.keeps;
+  keeps = numbers_keeps m;
   kept = λ k a e. got_left row arcs k a e;
   sound = λ k a e. elim (got_append row arcs k a e) [ inl f ↦ inl f | inr (j, f) ↦ inr (sound j a f) ];
   full = λ x q. let f = full x q in let g = got_right row arcs f.0 f.1 f.2 in (g.0, f.1, g.1, f.3);
-  only = λ k l h. (one, p, m.only k l h ∙ sym at);
+  only = λ k l h. (one, p, fresh_at m Hub k l h ∙ sym at);
 }
 
 -- the arc of one move
 pub draws_one : (old new : List Spot) (row : List Arc) (x : Step) (n : ℕ) → Numbers old new x.to n → Draws (λ y. y ≡ x) old new row (row ++ record { input = x.input; output = x.output; weight = x.weight; next = n } ∷ [])
 draws_one old new row x n m =
     let arc : Arc = record { input = x.input; output = x.output; weight = x.weight; next = n } in
-    let here : IsArcOf new x arc = record { input = refl; output = refl; weight = refl; within = m.within; next = m.place } in
+    let here : IsArcOf new x arc = record { input = refl; output = refl; weight = refl; within = numbers_within m; next = stored_at m Hub } in
     draws_to (λ y. y ≡ x) old new row (arc ∷ []) x.to n x m refl refl
     (λ j a e. (x, refl, subst (IsArcOf new x) (only j a e) here))
     (λ y e. (0, arc, refl, subst (λ z. IsArcOf new z arc) (sym e) here)) where
@@ -120,7 +120,7 @@ draws_copies old new row bytes to n m some =
     (λ j a e. let f = got_map (copy_arc n) bytes j a e in (copy_step f.0 to, (f.0, got_contains bytes j f.0 f.1, refl), subst (IsArcOf new (copy_step f.0 to)) (sym f.2) (here f.0)))
     (λ x (d, is, e). let f = contains_got bytes d is in (f.0, copy_arc n d, map_got (copy_arc n) bytes f.0 d f.1, subst (λ z. IsArcOf new z (copy_arc n d)) (sym e) (here d))) where
       here : (d : ℕ) → IsArcOf new (copy_step d to) (copy_arc n d)
-      here d = record { input = refl; output = refl; weight = refl; within = m.within; next = m.place }
+      here d = record { input = refl; output = refl; weight = refl; within = numbers_within m; next = stored_at m Hub }
 
 below_split : (Q : ℕ → Step → Type 0) (n : ℕ) (x : Step) → (Below Q n x ⊎ Q n x) ↔ Below Q (n + 1) x
 below_split Q n x = (

@@ -1,6 +1,6 @@
 -- What is built is a transducer, and its paths are the machine's runs.
-use Rattle.std.proofs.Common.{◌≡◌, ℕ, zero, suc, ◌+◌, ◌-◌, ◌<◌, ◌≤◌, ◌^◌, ◌↔◌, List, [], ◌∷◌, ◌++◌, length, get_or, Option, Some, None, refl, sym, ◌∙◌, ap, subst, arith, inl, inr, length-append, lit≤}
-use Rattle.std.specs.Prelude.{slice_get, IsTrue}
+use Rattle.std.proofs.Common.{◌≡◌, ℕ, zero, suc, ◌+◌, ◌<◌, ◌≤◌, ◌^◌, ◌↔◌, List, [], ◌∷◌, ◌++◌, length, get_or, Option, Some, None, refl, sym, ◌∙◌, ap, subst, arith, inl, inr, length-append, lit≤}
+use Rattle.std.specs.Prelude.{IsTrue}
 use Rattle.std.proofs.lemmas.Bool.{cases_lt}
 use Rattle.std.proofs.lemmas.List.{get_or_append_left, get_or_push}
 use Rattle.weighted_relations.specs.declared.Arc.{Arc}
@@ -8,11 +8,10 @@ use Rattle.weighted_relations.specs.Relations.{Same}
 use Rattle.weighted_relations.specs.Graphs.{stop, step, label}
 use Rattle.weighted_relations.specs.Machines.{Machine, Path, From, Reads, WellFormed, ArcFits}
 use Rattle.acceptor_ops.specs.Tables.{Table, step_of, IsTotal}
-use Rattle.fst_core.specs.States.{States, with_state, as_machine, no_states}
+use Rattle.fst_core.specs.States.{States, with_state, no_states}
 use Rattle.fst_core.specs.Top.{top_of}
 use Rattle.fst_core.proofs.Tops.{arc_below, end_below, top_under}
 use Rattle.fst_core.proofs.Fits.{no_arc, no_end}
-use Rattle.rewrite_rules.specs.declared.arcs.Step.{Step}
 use Rattle.rewrite_rules.specs.declared.automata.Automata.{Automata}
 use Rattle.rewrite_rules.specs.declared.spots.Gap.{Gap}
 use Rattle.rewrite_rules.specs.declared.spots.Held.{Held}
@@ -20,10 +19,11 @@ use Rattle.rewrite_rules.specs.declared.spots.Spot.{Spot}
 use Rattle.rewrite_rules.specs.declared.spots.Spot.TheVariants.{Hub, Outside, Inside}
 use Rattle.rewrite_rules.specs.Moves.{Run, halt, move, moved}
 use Rattle.rewrite_rules.specs.Bimachine.{Parts, Moves, guess, copied, enter, walk, leave, Ends, done, MayPass, bimachine}
-use Rattle.rewrite_rules.specs.Numbered.{Keeps, Numbers}
+use Rattle.state_table.specs.Numbers.{Keeps, Numbers}
+use Rattle.state_table.proofs.Numbering.{keeps_more, kept_at, fresh_at}
 use Rattle.rewrite_rules.specs.PartsOf.{parts, InRange, AreSound}
 use Rattle.rewrite_rules.specs.Steps.{IsMove}
-use Rattle.rewrite_rules.specs.Drawn.{IsArcOf, Draws, RowOf, Built}
+use Rattle.rewrite_rules.specs.Drawn.{Draws, RowOf, Built}
 use Rattle.rewrite_rules.proofs.Drawing.{arc_kept}
 
 pub end_zero : {p : Parts} {s : Spot} {w : ℕ} → Ends p s w → w ≡ 0
@@ -83,8 +83,8 @@ module _ (m : Machine) (t : Automata) (tau : WellFormed m) (ready : AreSound t) 
     sound = λ k a e.
         let f = h.sound k a e in
         let l : a.next < length old = f.0 in
-        let more : length old ≤ length new = keeps.more in
-        (omega (arith, l), subst (Moves (parts m t) s a.input a.output a.weight) (sym (keeps.kept a.next l)) f.1);
+        let more : length old ≤ length new = keeps_more keeps in
+        (omega (arith, l), subst (Moves (parts m t) s a.input a.output a.weight) (sym (kept_at Hub keeps a.next l)) f.1);
     full = λ x k. let f = h.full x k in (f.0, f.1, f.2, arc_kept old new x f.1 keeps f.3);
   }
 
@@ -105,7 +105,7 @@ module _ (m : Machine) (t : Automata) (tau : WellFormed m) (ready : AreSound t) 
 
   pub built_push : (spots new : List Spot) (b : States) (row : List Arc) (last : Option ℕ) → Built m t spots b → length b.arcs < length spots → Draws (IsMove (parts m t) (get_or spots (length b.arcs) Hub)) spots new [] row → ((w : ℕ) → (last ≡ Some w) ↔ Ends (parts m t) (get_or spots (length b.arcs) Hub) w) → Built m t new (with_state b row last)
   built_push spots new b row last h l d ends =
-      let more : length spots ≤ length new = d.keeps.more in
+      let more : length spots ≤ length new = keeps_more d.keeps in
       let count : length (b.arcs ++ row ∷ []) ≡ length b.arcs + 1 = length-append b.arcs (row ∷ []) in
       let ends_count : length (b.finals ++ last ∷ []) ≡ length b.finals + 1 = length-append b.finals (last ∷ []) in
       let even : length b.finals ≡ length b.arcs = h.even in
@@ -113,7 +113,7 @@ module _ (m : Machine) (t : Automata) (tau : WellFormed m) (ready : AreSound t) 
         even = omega arith;
         some = omega arith;
         ranged = λ k lt. elim (cases_lt k (length spots)) [
-          | inl f ↦ subst (InRange m t) (sym (d.keeps.kept k f)) (h.ranged k f)
+          | inl f ↦ subst (InRange m t) (sym (kept_at Hub d.keeps k f)) (h.ranged k f)
           | inr f ↦
               let s = d.only k f lt in
               subst (InRange m t) (sym s.2) (moves_fit s.1 (h.ranged (length b.arcs) l)).ranged
@@ -122,24 +122,24 @@ module _ (m : Machine) (t : Automata) (tau : WellFormed m) (ready : AreSound t) 
           | inl f ↦
               let within : k < length spots = omega arith in
               subst (RowOf (parts m t) new (get_or new k Hub)) (sym (get_or_append_left b.arcs (row ∷ []) [] k f))
-              (subst (λ s. RowOf (parts m t) new s (get_or b.arcs k [])) (sym (d.keeps.kept k within)) (row_kept spots new (get_or spots k Hub) (get_or b.arcs k []) d.keeps (h.rows k f)))
+              (subst (λ s. RowOf (parts m t) new s (get_or b.arcs k [])) (sym (kept_at Hub d.keeps k within)) (row_kept spots new (get_or spots k Hub) (get_or b.arcs k []) d.keeps (h.rows k f)))
           | inr f ↦
               let at : length b.arcs ≡ k = omega arith in
               let within : k < length spots = omega arith in
               subst (RowOf (parts m t) new (get_or new k Hub)) (sym (get_or_push b.arcs row [] k at))
-              (subst (λ s. RowOf (parts m t) new s row) (sym (d.keeps.kept k within ∙ ap (λ n. get_or spots n Hub) (sym at))) (row_drawn spots new (get_or spots (length b.arcs) Hub) row d))
+              (subst (λ s. RowOf (parts m t) new s row) (sym (kept_at Hub d.keeps k within ∙ ap (λ n. get_or spots n Hub) (sym at))) (row_drawn spots new (get_or spots (length b.arcs) Hub) row d))
         ];
         ends = λ k w lt. elim (cases_lt k (length b.arcs)) [
           | inl f ↦
               let within : k < length spots = omega arith in
               let at : k < length b.finals = omega arith in
-              subst (λ s. (get_or (b.finals ++ last ∷ []) k None ≡ Some w) ↔ Ends (parts m t) s w) (sym (d.keeps.kept k within))
+              subst (λ s. (get_or (b.finals ++ last ∷ []) k None ≡ Some w) ↔ Ends (parts m t) s w) (sym (kept_at Hub d.keeps k within))
               (subst (λ o. (o ≡ Some w) ↔ Ends (parts m t) (get_or spots k Hub) w) (sym (get_or_append_left b.finals (last ∷ []) None k at)) (h.ends k w f))
           | inr f ↦
               let at : length b.arcs ≡ k = omega arith in
               let at2 : length b.finals ≡ k = omega arith in
               let within : k < length spots = omega arith in
-              subst (λ s. (get_or (b.finals ++ last ∷ []) k None ≡ Some w) ↔ Ends (parts m t) s w) (sym (d.keeps.kept k within ∙ ap (λ n. get_or spots n Hub) (sym at)))
+              subst (λ s. (get_or (b.finals ++ last ∷ []) k None ≡ Some w) ↔ Ends (parts m t) s w) (sym (kept_at Hub d.keeps k within ∙ ap (λ n. get_or spots n Hub) (sym at)))
               (subst (λ o. (o ≡ Some w) ↔ Ends (parts m t) (get_or spots (length b.arcs) Hub) w) (sym (get_or_push b.finals last None k at2)) (ends w))
         ];
       }
@@ -210,7 +210,7 @@ pub built_none : (m : Machine) (t : Automata) (spots : List Spot) (start : ℕ) 
 built_none m t spots start n = record {
   even = refl;
   some = omega arith;
-  ranged = λ k l. subst (InRange m t) (sym (n.only k (omega arith) l)) tt;
+  ranged = λ k l. subst (InRange m t) (sym (fresh_at n Hub k (omega arith) l)) tt;
   rows = λ k l. absurd (omega (arith, l));
   ends = λ k w l. absurd (omega (arith, l));
 }

@@ -1,8 +1,8 @@
 -- Where tau reads no empty input, the gap plays no part.
-use Rattle.std.proofs.Common.{◌≡◌, ℕ, ◌+◌, List, [], ◌∷◌, ◌++◌, refl, sym, subst, ◌∙◌, ap}
+use Rattle.std.proofs.Common.{◌≡◌, ℕ, ◌+◌, List, [], ◌∷◌, ◌++◌}
 use Rattle.weighted_relations.specs.Relations.{Relation, Same, IsInput}
 use Rattle.weighted_relations.specs.Rewriting.{Manner, obligatory, optional, MayCopy, Rewrites, stop_here, copy, rewrite, Rewritten, Begins as BeginsFull}
-use Rattle.rewrite_rules.specs.Gaps.{HasRoom, Begins, NoneBegins, Goes, ends_here, copies, rewrites, gap_after, GoesWhole}
+use Rattle.rewrite_rules.specs.Gaps.{HasRoom, Begins, NoneBegins, Goes, ends_here, copies, rewrites, GoesWhole}
 use Rattle.rewrite_rules.specs.declared.spots.Gap.{Gap}
 use Rattle.rewrite_rules.specs.declared.spots.Gap.TheVariants.{Open, Shut}
 

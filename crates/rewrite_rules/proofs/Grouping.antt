@@ -1,5 +1,5 @@
 -- Classes of bytes, and the sources of states, one after another.
-use Rattle.std.proofs.Common.{◌≡◌, ◌≢◌, ◌↔◌, ◌⊎◌, ℕ, zero, suc, ◌+◌, ◌<◌, ◌≤◌, List, [], ◌∷◌, ◌++◌, length, get_or, refl, sym, ◌∙◌, ap, subst, arith, inl, inr, length-append}
+use Rattle.std.proofs.Common.{◌≡◌, ◌⊎◌, ℕ, ◌+◌, ◌<◌, ◌≤◌, List, [], ◌∷◌, ◌++◌, length, get_or, refl, sym, ◌∙◌, ap, subst, arith, inl, inr, length-append}
 use Rattle.std.specs.List.{Contains}
 use Rattle.std.proofs.lemmas.Bool.{cases_lt, cases_eq}
 use Rattle.std.proofs.lemmas.List.{get_or_past, get_or_append_left, get_or_push, get_or-set_same, get_or-set_other, length-set}
@@ -7,36 +7,13 @@ use Rattle.std.proofs.lemmas.List.Elements.{Contains-get_or, Contains-append_lef
 use Rattle.weighted_relations.specs.Relations.{IsByte}
 use Rattle.acceptor_ops.specs.Tables.{Table, step_of}
 use Rattle.acceptor_ops.specs.StateSets.{with_element}
+use Rattle.acceptor_ops.proofs.Filling.{element_there, element_kept, element_only}
 use Rattle.rewrite_rules.specs.Classes.{Classing, class_at, first, AreAlike, IsMember, AreClassesTo, joined, opened}
 use Rattle.rewrite_rules.specs.Befores.{LeadTo, AreBefore}
 use Rattle.rewrite_rules.specs.declared.automata.Automata.{Automata}
 
 none_in_nil : {A : Type 0} (x : A) → Contains [] x → ⊥
 none_in_nil x (k, l, e) = omega (arith, l)
-
--- what stands in a list after one more element
-there : (lists : List (List ℕ)) (c t : ℕ) → c < length lists → Contains (get_or (with_element lists c t) c []) t
-there lists c t l = subst (λ r. Contains r t) (sym (get_or-set_same lists c (get_or lists c [] ++ t ∷ []) [] l)) (Contains-push (get_or lists c []) t)
-
-kept : (lists : List (List ℕ)) (c t d u : ℕ) → c < length lists → Contains (get_or lists d []) u → Contains (get_or (with_element lists c t) d []) u
-kept lists c t d u l h = elim (cases_eq d c) [
-  | inl e ↦
-      subst (λ n. Contains (get_or (with_element lists c t) n []) u) (sym e)
-      (subst (λ r. Contains r u) (sym (get_or-set_same lists c (get_or lists c [] ++ t ∷ []) [] l))
-      (Contains-append_left (get_or lists c []) (t ∷ []) u (subst (λ n. Contains (get_or lists n []) u) e h)))
-  | inr ne ↦ subst (λ r. Contains r u) (sym (get_or-set_other lists c d (get_or lists c [] ++ t ∷ []) [] ne)) h
-]
-
-only : (lists : List (List ℕ)) (c t d u : ℕ) → c < length lists → Contains (get_or (with_element lists c t) d []) u → Contains (get_or lists d []) u ⊎ ((c ≡ d) × (t ≡ u))
-only lists c t d u l h = elim (cases_eq d c) [
-  | inl e ↦
-      let here : Contains (get_or lists c [] ++ t ∷ []) u = subst (λ r. Contains r u) (ap (λ n. get_or (with_element lists c t) n []) e ∙ get_or-set_same lists c (get_or lists c [] ++ t ∷ []) [] l) h in
-      elim (Contains-push_cases (get_or lists c []) t u here) [
-        | inl old ↦ inl (subst (λ n. Contains (get_or lists n []) u) (sym e) old)
-        | inr q ↦ inr (sym e, q)
-      ]
-  | inr ne ↦ inl (subst (λ r. Contains r u) (get_or-set_other lists c d (get_or lists c [] ++ t ∷ []) [] ne) h)
-]
 
 -- Sources
 
@@ -50,16 +27,16 @@ pub lead_more : (d : Table) (label n : ℕ) (lists : List (List ℕ)) (b : ℕ) 
 lead_more d label n lists b at l h = record {
   count = length-set lists b (get_or lists b [] ++ n ∷ []) ∙ h.count;
   sources = λ c s. (
-    λ k. elim (only lists b n c s l k) [
+    λ k. elim (element_only lists b n c s l k) [
       | inl old ↦ let f = (h.sources c s).0 old in (let m : s < n = f.0 in omega arith, f.1)
       | inr (p, q) ↦ (let m : n ≡ s = q in omega arith, ap (λ j. step_of d j label) (sym q) ∙ sym at ∙ p)
     ],
     λ (m, e). elim (cases_lt s n) [
-      | inl j ↦ kept lists b n c s l ((h.sources c s).1 (j, e))
+      | inl j ↦ element_kept lists b n c s l ((h.sources c s).1 (j, e))
       | inr j ↦
           let same : n ≡ s = omega arith in
           let to : b ≡ c = at ∙ ap (λ j. step_of d j label) same ∙ e in
-          subst (λ x. Contains (get_or (with_element lists b n) x []) s) to (subst (λ x. Contains (get_or (with_element lists b n) b []) x) same (there lists b n l))
+          subst (λ x. Contains (get_or (with_element lists b n) x []) s) to (subst (λ x. Contains (get_or (with_element lists b n) b []) x) same (element_there lists b n l))
     ],
   );
 }
@@ -113,7 +90,7 @@ classes_joined t c n k byte l alike h =
     let new : (d : ℕ) → c ≡ d → class_at (joined k n c) d ≡ n = λ d m. get_or_push k.of n 0 d (count ∙ m) in
     record {
       length_of = length-append k.of (n ∷ []) ∙ ap (λ j. j + 1) count;
-      sound = λ j d m. elim (only k.members n c j d l m) [
+      sound = λ j d m. elim (element_only k.members n c j d l m) [
         | inl f ↦ member_as t k (joined k n c) j d (first_joined k n c j l some) (h.sound j d f)
         | inr (p, q) ↦
             member_as t k (joined k n c) j d (first_joined k n c j l some)
@@ -124,10 +101,10 @@ classes_joined t c n k byte l alike h =
         | inr m ↦ let same : c ≡ d = omega arith in let e = new d same in omega arith
       ];
       all = λ d low high. elim (cases_lt d c) [
-        | inl m ↦ subst (λ i. Contains (get_or (with_element k.members n c) i []) d) (sym (old d m)) (kept k.members n c (class_at k d) d l (h.all d low m))
+        | inl m ↦ subst (λ i. Contains (get_or (with_element k.members n c) i []) d) (sym (old d m)) (element_kept k.members n c (class_at k d) d l (h.all d low m))
         | inr m ↦
             let same : c ≡ d = omega arith in
-            subst (λ i. Contains (get_or (with_element k.members n c) i []) d) (sym (new d same)) (subst (λ i. Contains (get_or (with_element k.members n c) n []) i) same (there k.members n c l))
+            subst (λ i. Contains (get_or (with_element k.members n c) i []) d) (sym (new d same)) (subst (λ i. Contains (get_or (with_element k.members n c) n []) i) same (element_there k.members n c l))
       ];
       some = λ j m. elim (cases_eq j n) [
         | inl e ↦

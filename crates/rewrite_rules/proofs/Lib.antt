@@ -1,7 +1,6 @@
 pub mod Sound
 pub mod Complete
 pub mod Gapless
-pub mod Numbering
 pub mod Drawing
 pub mod Listing
 pub mod Fitting

@@ -13,7 +13,7 @@ use Rattle.rewrite_rules.specs.PartsOf.{parts}
 use Rattle.rewrite_rules.specs.Classes.{class_at, first, AreAlike, IsMember}
 use Rattle.rewrite_rules.specs.Befores.{before_at, LeadTo}
 use Rattle.rewrite_rules.specs.Tables.{Ready}
-use Rattle.rewrite_rules.specs.Steps.{IsMove, Below, Listed, Guess, CopyTo, CopyOf, copied_to, copy_step, Pass, Enter, WalkFrom, WalkBy, walk_step, Walk, Leave}
+use Rattle.rewrite_rules.specs.Steps.{IsMove, Below, Guess, CopyOf, copy_step, Pass, Enter, WalkFrom, WalkBy, walk_step, Walk, Leave}
 use Rattle.rewrite_rules.specs.declared.arcs.Step.{Step}
 use Rattle.rewrite_rules.specs.declared.arcs.Place.{Place}
 use Rattle.rewrite_rules.specs.declared.arcs.Tables.{Tables}

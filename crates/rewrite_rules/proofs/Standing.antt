@@ -1,10 +1,10 @@
 -- The automata say of texts what the machine needs.
-use Rattle.std.proofs.Common.{◌≡◌, ℕ, ◌-◌, ◌<◌, ◌≤◌, ◌↔◌, List, [], ◌∷◌, ◌++◌, length, Bool, true, false, refl, sym, ◌∙◌, ap, subst, arith, inl, inr, append_assoc, append-nil}
+use Rattle.std.proofs.Common.{◌≡◌, ℕ, ◌<◌, ◌↔◌, List, [], ◌∷◌, ◌++◌, length, Bool, true, false, refl, sym, ◌∙◌, ap, subst, arith, inl, inr, append_assoc}
 use Rattle.std.specs.Prelude.{All, IsTrue, ◌&&◌, ◌||◌, reverse}
 use Rattle.std.proofs.lemmas.List.{reverse-append}
 use Rattle.std.proofs.lemmas.Bool.{and_parts, and_from, or_cases}
 use Rattle.std.proofs.lemmas.List.Elements.{All-head, All-tail, All-nil, All-cons, All-append}
-use Rattle.weighted_relations.specs.Relations.{Relation, IsLabel, IsByte, IsInput, Accepts as AcceptsBy}
+use Rattle.weighted_relations.specs.Relations.{Relation, IsLabel, IsByte, IsInput}
 use Rattle.weighted_relations.specs.RelationLaws.{input_accepted}
 use Rattle.weighted_relations.specs.Machines.{Machine, Reads}
 use Rattle.weighted_relations.specs.Rewriting.{EndsIn, StartsWith}
@@ -13,7 +13,7 @@ use Rattle.rewrite_rules.specs.Gaps.{HasRoom}
 use Rattle.rewrite_rules.specs.Bimachine.{run, behind}
 use Rattle.rewrite_rules.specs.Stands.{IsPlain, Ahead, Stands}
 use Rattle.rewrite_rules.specs.PartsOf.{parts, accepts_at, right_of, begins_of}
-use Rattle.rewrite_rules.specs.Languages.{Heads, Fronts, LeftText, BackText, Speaks, Conditions}
+use Rattle.rewrite_rules.specs.Languages.{Fronts, LeftText, BackText, Speaks, Conditions}
 use Rattle.rewrite_rules.specs.declared.automata.Automata.{Automata}
 use Rattle.rewrite_rules.specs.declared.spots.Gap.{Gap}
 use Rattle.rewrite_rules.specs.declared.spots.Gap.TheVariants.{Open, Shut}

@@ -4,7 +4,7 @@ use Rattle.weighted_relations.specs.declared.Arc.{Arc}
 use Rattle.weighted_relations.specs.Machines.{Machine}
 use Rattle.fst_core.specs.States.{States}
 use Rattle.rewrite_rules.specs.Bimachine.{Parts, Moves, Ends}
-use Rattle.rewrite_rules.specs.Numbered.{Keeps}
+use Rattle.state_table.specs.Numbers.{Keeps}
 use Rattle.rewrite_rules.specs.PartsOf.{parts, InRange}
 use Rattle.rewrite_rules.specs.Steps.{IsMove}
 use Rattle.rewrite_rules.specs.declared.arcs.Step.{Step}

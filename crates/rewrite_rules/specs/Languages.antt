@@ -1,5 +1,5 @@
 -- The texts that the automata of a rewrite accept.
-use Rattle.std.specs.Prelude.{◌≡◌, ◌↔◌, ◌⊎◌, ℕ, List, [], ◌∷◌, ◌++◌, All, IsTrue, reverse}
+use Rattle.std.specs.Prelude.{◌≡◌, ◌↔◌, ℕ, List, [], ◌∷◌, ◌++◌, All, IsTrue, reverse}
 use Rattle.weighted_relations.specs.Relations.{Relation, IsLabel, IsInput, Is, Either, IsAcceptor, IsUnmarked}
 use Rattle.acceptor_ops.specs.Tables.{Accepts, step_of}
 use Rattle.rewrite_rules.specs.declared.automata.Automata.{Automata}

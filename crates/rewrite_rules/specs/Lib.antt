@@ -3,7 +3,6 @@ pub mod Gaps
 pub mod Moves
 pub mod Bimachine
 pub mod Stands
-pub mod Numbered
 pub mod AnyTexts
 pub mod Languages
 pub mod PartsOf

@@ -1,5 +1,5 @@
 -- The moves from a place, as the code goes over them.
-use Rattle.std.specs.Prelude.{◌≡◌, ◌≤◌, ◌<◌, ◌⊎◌, ℕ, List, [], length, get_or, IsTrue, Some, slice_get}
+use Rattle.std.specs.Prelude.{◌≡◌, ◌≤◌, ◌<◌, ℕ, List, [], length, get_or, IsTrue, Some, slice_get}
 use Rattle.std.specs.List.{Contains}
 use Rattle.weighted_relations.specs.declared.Arc.{Arc}
 use Rattle.weighted_relations.specs.Machines.{final_of}

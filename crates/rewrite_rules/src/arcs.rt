@@ -12,9 +12,10 @@ ghost use Rattle.rewrite_rules.specs.Drawn.{Draws};
 use crate::automata::Automata;
 use crate::befores::Befores;
 use crate::classes::Classes;
-use crate::spots::{Gap, Held, Spot, Spots};
+use crate::spots::{Gap, Held, Spot};
 use acceptor_ops::Dfa;
 use fst_core::{Arc, Fst};
+use state_table::StateTable;
 use std::alloc::{AllocError, Global};
 
 /// The automata of a rewrite, and what is worked out of them once.
@@ -48,7 +49,7 @@ pub(crate) fn row_of(
     tau: &Fst,
     t: &Tables,
     spot: Spot,
-    spots: &mut Spots,
+    spots: &mut StateTable<Spot>,
 ) -> Result<Vec<Arc>, AllocError>
     requires ready { Ready tau.now t.now }
     requires spot { InRange tau.now t.now.automata spot }
@@ -64,7 +65,7 @@ fn fill(
     tau: &Fst,
     t: &Tables,
     spot: Spot,
-    spots: &mut Spots,
+    spots: &mut StateTable<Spot>,
     row: &mut Vec<Arc>,
 ) -> Result<(), AllocError>
     requires ready { Ready tau.now t.now }
@@ -90,7 +91,7 @@ fn fill(
 }
 
 /// The arc of a move, whose place gets a number.
-fn draw(step: Step, spots: &mut Spots, row: &mut Vec<Arc>) -> Result<(), AllocError>
+fn draw(step: Step, spots: &mut StateTable<Spot>, row: &mut Vec<Arc>) -> Result<(), AllocError>
     ensures drawn { OnOk result (Draws (λ x. x ≡ step) spots.old spots.new row.old.items row.new.items) }
 {
     let next = spots.number(step.to)?;
@@ -104,7 +105,12 @@ fn draw(step: Step, spots: &mut Spots, row: &mut Vec<Arc>) -> Result<(), AllocEr
 }
 
 /// The guesses of the backward automaton's state before the whole input.
-fn guesses(tau: &Fst, t: &Tables, spots: &mut Spots, row: &mut Vec<Arc>) -> Result<(), AllocError>
+fn guesses(
+    tau: &Fst,
+    t: &Tables,
+    spots: &mut StateTable<Spot>,
+    row: &mut Vec<Arc>,
+) -> Result<(), AllocError>
     ensures drawn { OnOk result (Draws (IsMove (parts tau.now t.now.automata) Spot.Hub) spots.old spots.new row.old.items row.new.items) }
 {
     for back in 0..t.automata.back.len() {
@@ -134,7 +140,7 @@ fn outside(
     t: &Tables,
     at: Place,
     gap: Gap,
-    spots: &mut Spots,
+    spots: &mut StateTable<Spot>,
     row: &mut Vec<Arc>,
 ) -> Result<(), AllocError>
     requires ready { Ready tau.now t.now }
@@ -154,7 +160,7 @@ fn enter(
     t: &Tables,
     at: Place,
     gap: Gap,
-    spots: &mut Spots,
+    spots: &mut StateTable<Spot>,
     row: &mut Vec<Arc>,
 ) -> Result<(), AllocError>
     requires left { at.left < length t.now.automata.left.next }
@@ -189,7 +195,7 @@ fn pass(
     t: &Tables,
     at: Place,
     gap: Gap,
-    spots: &mut Spots,
+    spots: &mut StateTable<Spot>,
     row: &mut Vec<Arc>,
 ) -> Result<(), AllocError>
     requires ready { Ready tau.now t.now }
@@ -209,7 +215,7 @@ fn copies(
     tau: &Fst,
     t: &Tables,
     at: Place,
-    spots: &mut Spots,
+    spots: &mut StateTable<Spot>,
     row: &mut Vec<Arc>,
 ) -> Result<(), AllocError>
     requires ready { Ready tau.now t.now }
@@ -230,7 +236,7 @@ fn copies_of(
     t: &Tables,
     at: Place,
     class: usize,
-    spots: &mut Spots,
+    spots: &mut StateTable<Spot>,
     row: &mut Vec<Arc>,
 ) -> Result<(), AllocError>
     requires ready { Ready tau.now t.now }
@@ -261,7 +267,7 @@ fn copies_of(
 fn copies_to(
     bytes: &[u16],
     to: Spot,
-    spots: &mut Spots,
+    spots: &mut StateTable<Spot>,
     row: &mut Vec<Arc>,
 ) -> Result<(), AllocError>
     requires some { 0 < length bytes.now }
@@ -294,7 +300,7 @@ fn inside(
     at: Place,
     state: usize,
     held: Held,
-    spots: &mut Spots,
+    spots: &mut StateTable<Spot>,
     row: &mut Vec<Arc>,
 ) -> Result<(), AllocError>
     requires ready { Ready tau.now t.now }
@@ -316,7 +322,7 @@ fn leave(
     at: Place,
     state: usize,
     held: Held,
-    spots: &mut Spots,
+    spots: &mut StateTable<Spot>,
     row: &mut Vec<Arc>,
 ) -> Result<(), AllocError>
     requires back { at.back < length t.now.automata.back.next }
@@ -352,7 +358,7 @@ fn walks(
     at: Place,
     state: usize,
     held: Held,
-    spots: &mut Spots,
+    spots: &mut StateTable<Spot>,
     row: &mut Vec<Arc>,
 ) -> Result<(), AllocError>
     requires ready { Ready tau.now t.now }
@@ -376,7 +382,7 @@ fn walks_by(
     at: Place,
     held: Held,
     arc: Arc,
-    spots: &mut Spots,
+    spots: &mut StateTable<Spot>,
     row: &mut Vec<Arc>,
 ) -> Result<(), AllocError>
     requires ready { Ready tau.now t.now }
@@ -404,7 +410,7 @@ fn walks_from(
     held: Held,
     arc: Arc,
     sources: &[usize],
-    spots: &mut Spots,
+    spots: &mut StateTable<Spot>,
     row: &mut Vec<Arc>,
 ) -> Result<(), AllocError>
     requires sigma { at.sigma < length t.now.automata.sigma.next }

@@ -27,6 +27,3 @@ mod spots;
 
 pub use modes::RewriteMode;
 pub use rewrites::rewrite;
-
-#[cfg(test)]
-mod tests;

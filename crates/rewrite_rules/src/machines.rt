@@ -11,8 +11,9 @@ ghost use Rattle.rewrite_rules.specs.Tables.{Ready};
 
 use crate::arcs::{Place, Tables, row_of};
 use crate::automata::Automata;
-use crate::spots::{Gap, Spot, Spots};
+use crate::spots::{Gap, Spot};
 use fst_core::{Builder, Fst};
+use state_table::StateTable;
 use std::alloc::{AllocError, Global};
 
 /// The transducer of the machine: the places that its start leads to.
@@ -24,11 +25,11 @@ pub(crate) fn machine(alloc: Global, tau: &Fst, t: &Tables) -> Result<Fst, Alloc
     ensures readings { IfOk result (λ m. Same (Reads m) (Run (bimachine (parts tau.now t.now.automata)) Spot.Hub)) }
     ensures top { IfOk result (λ m. top_of m ≤ top_of tau.now) }
 {
-    let mut spots = Spots::new(alloc);
+    let mut spots = StateTable::new(alloc);
     let start = spots.number(Spot::Hub)?;
     let mut built = Builder::new(alloc);
     'rows: while built.len() < spots.len() {
-        let spot = spots.get(built.len());
+        let spot = *spots.key(built.len());
         let row = row_of(alloc, tau, t, spot, &mut spots)?;
         built.push(row, end_of(tau, &t.automata, spot))?;
     }

@@ -7,14 +7,18 @@ use Rattle.norm_base.specs.Bytes.{AppendsPrefix}
 use Rattle.norm_base.specs.Counts.{capped}
 use Rattle.norm_base.specs.Files.{Files}
 use Rattle.norm_base.proofs.Front.{prefix_none}
-use Rattle.weighted_relations.specs.Expressions.{Expression}
-use Rattle.speak_core.specs.Accepted.{Accepted, Asks, IsRefusal, IsOnly, spoken_by, refused}
+use Rattle.weighted_relations.specs.Expressions.{Expression, Rel}
+use Rattle.weighted_relations.specs.Relations.{Cascade}
+use Rattle.text_lines.specs.Lines.{lines}
+use Rattle.speak_core.specs.Accepted.{Accepted, Asks, IsRefusal, spoken_by, refused}
 use Rattle.speak_core.specs.Commands.{setup_name}
-use Rattle.speak_core.specs.Inputs.{GaveMore}
+use Rattle.speak_core.specs.Inputs.{GaveMore, GaveTooMuch, IfGaveTooMuch}
 use Rattle.speak_core.specs.Loaded.{StopsAs}
-use Rattle.speak_core.specs.Owed.{Owed, SpeaksAll}
-use Rattle.speak_core.specs.Stops.{status_of, text_of, last_text, SomeRose, NoneRose, AllCounts, IsAccepted, IsEnd, IsRefusalStop}
-use Rattle.speak_core.specs.Told.{TellsLast, TellsTwice, TellsShort, TellsStop, MayTell, no_text, wrong_words, refusal, outside, too_long}
+use Rattle.speak_core.specs.Owed.{Owed, SpeaksAll, SpeaksInput}
+use Rattle.speak_core.specs.Devices.{Observed, SinkSeen, SomeRose, NoneRose}
+use Rattle.speak_core.specs.Parts.{Speaks}
+use Rattle.speak_core.specs.Stops.{status_of, text_of, last_text, AllCounts, IsAccepted, IsEnd, IsRefusalStop}
+use Rattle.speak_core.specs.Told.{TellsLast, TellsTwice, TellsShortOf, TellsStop, MayTell, no_text, wrong_words, refusal, outside, too_long}
 use Rattle.speak_core.specs.declared.stop.Stop.{Stop}
 use Rattle.speak_core.specs.declared.stop.Stop.TheVariants.{Words, Refused, Outside, Memory, TooLong}
 
@@ -126,15 +130,17 @@ pub is_refusal : (r : Result Bool Stop) (n : ℕ) → IsEnd n r → (n ≡ 2) �
 is_refusal r n end (inl e) = subst (λ v. IsErrAnd v IsRefusalStop) (sym (stopped_at r Words n end e refl refl)) tt
 is_refusal r n end (inr e) = let at = refused_at r n end e in subst (λ v. IsErrAnd v IsRefusalStop) (sym at.is) tt
 
-pub refused_end : (words : List (String Global)) (known : Option Files) (r : Result Bool Stop) (n : ℕ) → IsEnd n r → (r ≡ Err Words → setup_name words ≡ None) → (IsAccepted r → IfSome known (λ files. (text : List ℕ) → Asks words files (refused text) → ⊥))
-    → IfSome known (λ files. (text : List ℕ) → Asks words files (refused text) → (n ≡ 3) ⊎ ((n ≡ 4) ⊎ (n ≡ 5)))
-refused_end words None r n end wrong accepted = tt
-refused_end words (Some files) (Ok b) n end wrong accepted = λ text h. absurd (accepted tt text h)
-refused_end words (Some files) (Err Words) n end wrong accepted = λ text h. absurd (let no_name : Some h.name ≡ None = sym h.is_command ∙ wrong refl in cc)
-refused_end words (Some files) (Err (Refused t)) n end wrong accepted = λ text h. elim end [ inl e ↦ inl e | inr e ↦ inr (inr e) ]
-refused_end words (Some files) (Err Outside) n end wrong accepted = λ text h. elim end [ inl e ↦ inr (inl e) | inr e ↦ inr (inr e) ]
-refused_end words (Some files) (Err Memory) n end wrong accepted = λ text h. elim end [ inl e ↦ inr (inr e) | inr e ↦ inr (inr e) ]
-refused_end words (Some files) (Err TooLong) n end wrong accepted = λ text h. absurd (accepted tt text h)
+-- what was refused ends so, or by a fault of which this is known
+pub refused_end : (words : List (String Global)) (known : Option Files) (Rises : Type 0) (r : Result Bool Stop) (n : ℕ) → IsEnd n r → (r ≡ Err Words → setup_name words ≡ None) → (IsAccepted r → IfSome known (λ files. (text : List ℕ) → Asks words files (refused text) → ⊥))
+    → (r ≡ Err Outside → IfSome known (λ files. (text : List ℕ) → Asks words files (refused text) → Rises))
+    → IfSome known (λ files. (text : List ℕ) → Asks words files (refused text) → (n ≡ 3) ⊎ ((n ≡ 5) ⊎ ((n ≡ 4) × Rises)))
+refused_end words None Rises r n end wrong accepted rises = tt
+refused_end words (Some files) Rises (Ok b) n end wrong accepted rises = λ text h. absurd (accepted tt text h)
+refused_end words (Some files) Rises (Err Words) n end wrong accepted rises = λ text h. absurd (let no_name : Some h.name ≡ None = sym h.is_command ∙ wrong refl in cc)
+refused_end words (Some files) Rises (Err (Refused t)) n end wrong accepted rises = λ text h. elim end [ inl e ↦ inl e | inr e ↦ inr (inl e) ]
+refused_end words (Some files) Rises (Err Outside) n end wrong accepted rises = λ text h. elim end [ inl e ↦ inr (inr (e, rises refl text h)) | inr e ↦ inr (inl e) ]
+refused_end words (Some files) Rises (Err Memory) n end wrong accepted rises = λ text h. elim end [ inl e ↦ inr (inl e) | inr e ↦ inr (inl e) ]
+refused_end words (Some files) Rises (Err TooLong) n end wrong accepted rises = λ text h. absurd (accepted tt text h)
 
 -- the refusal that a run stopped at, where the files are known
 pub refusal_known : (words : List (String Global)) (known : Option Files) (r : Result Bool Stop) (text : Vec ℕ Global) → r ≡ Err (Refused text) → IfErr r (λ s. IfSome known (λ files. StopsAs (Asks words files) s)) → IfSome known (λ files. IsRefusal words files text.items)
@@ -147,45 +153,54 @@ some_text words (Some files) text h = (text, h)
 pub refusal_end : (words : List (String Global)) (known : Option Files) (r : Result Bool Stop) (n : ℕ) → IsEnd n r → n ≡ 3 → IfErr r (λ s. IfSome known (λ files. StopsAs (Asks words files) s)) → IfSome known (λ files. (t : List ℕ) × IsRefusal words files t)
 refusal_end words known r n end is refusals = let at = refused_at r n end is in some_text words known at.text.items (refusal_known words known r at.text at.is refusals)
 
-pub long_end : (left now : Option (List ℕ)) (r : Result Bool Stop) (n : ℕ) → IsEnd n r → IfSome left (λ before. IfSome now (λ after. GaveMore before after → r ≡ Err TooLong))
-    → IfSome left (λ before. IfSome now (λ after. GaveMore before after → (n ≡ 6) ⊎ (n ≡ 5)))
+pub long_end : (left now : Option (List ℕ)) (r : Result Bool Stop) (n : ℕ) → IsEnd n r → IfGaveTooMuch left now (r ≡ Err TooLong) → IfGaveTooMuch left now ((n ≡ 6) ⊎ (n ≡ 5))
 long_end None now r n end long = tt
 long_end (Some before) None r n end long = tt
 long_end (Some before) (Some after) r n end long = λ more. end_at r TooLong n end (long more)
 
+-- the same devices, but for the errors after all was told
+abbrev pub then_err : Observed → SinkSeen → Observed
+then_err d err = record { before = d.before; after = record { shelf = d.after.shelf; source = d.after.source; out = d.after.out; err = err } }
+
 -- the count of the errors stood or rose after
-rose_later : (h h' s s' o o' e e' e'' : ℕ) → SomeRose h h' s s' o o' e e' → e' ≤ e'' → SomeRose h h' s s' o o' e e''
-rose_later h h' s s' o o' e e' e'' (inl r) l = inl r
-rose_later h h' s s' o o' e e' e'' (inr (inl r)) l = inr (inl r)
-rose_later h h' s s' o o' e e' e'' (inr (inr (inl r))) l = inr (inr (inl r))
-rose_later h h' s s' o o' e e' e'' (inr (inr (inr r))) l = inr (inr (inr (omega (arith, r, l))))
+rose_later : (d : Observed) (err : SinkSeen) → SomeRose d → d.after.err.faults ≤ err.faults → SomeRose (then_err d err)
+rose_later d err (inl r) l = inl r
+rose_later d err (inr (inl r)) l = inr (inl r)
+rose_later d err (inr (inr (inl r))) l = inr (inr (inl r))
+rose_later d err (inr (inr (inr r))) l = inr (inr (inr (omega (arith, r, l))))
 
-pub outside_rose : (h h' s s' o o' e e' e'' : ℕ) (r : Result Bool Stop) → AllCounts h h' s s' o o' e e' r → e' ≤ e'' → r ≡ Err Outside → SomeRose h h' s s' o o' e e''
-outside_rose h h' s s' o o' e e' e'' r counts l is = rose_later h h' s s' o o' e e' e'' (subst (λ v. AllCounts h h' s s' o o' e e' v) is counts) l
+pub outside_rose : (d : Observed) (err : SinkSeen) (r : Result Bool Stop) → AllCounts d r → d.after.err.faults ≤ err.faults → r ≡ Err Outside → SomeRose (then_err d err)
+outside_rose d err r counts l is = rose_later d err (subst (λ v. AllCounts d v) is counts) l
 
-pub none_rose : (h h' s s' o o' e e' e'' : ℕ) (r : Result Bool Stop) → AllCounts h h' s s' o o' e e' r → Finished r → IfOk r (λ b. e'' ≡ e') → NoneRose h h' s s' o o' e e''
-none_rose h h' s s' o o' e e' e'' r counts f kept =
-    let c : NoneRose h h' s s' o o' e e' = subst (λ v. AllCounts h h' s s' o o' e e' v) f.is counts in
-    let k : e'' ≡ e' = subst (λ v. IfOk v (λ b. e'' ≡ e')) f.is kept in
+pub none_rose : (d : Observed) (err : SinkSeen) (r : Result Bool Stop) → AllCounts d r → Finished r → IfOk r (λ b. err.faults ≡ d.after.err.faults) → NoneRose (then_err d err)
+none_rose d err r counts f kept =
+    let c : NoneRose d = subst (λ v. AllCounts d v) f.is counts in
+    let k : err.faults ≡ d.after.err.faults = subst (λ v. IfOk v (λ b. err.faults ≡ d.after.err.faults)) f.is kept in
     (c.0, c.1, c.2, k ∙ c.3)
 
 pub at_end : (now : Option (List ℕ)) (r : Result Bool Stop) → OnOk r (IsAtEnd now) → Finished r → IsAtEnd now
 at_end now r end f = subst (λ v. OnOk v (IsAtEnd now)) f.is end
 
-pub speaks_at : (words : List (String Global)) (known : Option Files) (left out out' err err' err'' : Option (List ℕ)) (r : Result Bool Stop) (b : Bool) → r ≡ Ok b
-    → IfOk r (λ is_read. IfSome known (λ files. IfSome left (λ input. SpeaksAll words files input out out' err err' is_read))) → IfOk r (λ is_read. err'' ≡ err')
-    → IfSome known (λ files. IfSome left (λ input. SpeaksAll words files input out out' err err'' b))
-speaks_at words known left out out' err err' err'' r b is done kept =
-    let d = subst (λ v. IfOk v (λ is_read. IfSome known (λ files. IfSome left (λ input. SpeaksAll words files input out out' err err' is_read)))) is done in
-    let k : err'' ≡ err' = subst (λ v. IfOk v (λ is_read. err'' ≡ err')) is kept in
-    subst (λ v. IfSome known (λ files. IfSome left (λ input. SpeaksAll words files input out out' err v b))) (sym k) d
+pub speaks_at : (words : List (String Global)) (d : Observed) (err : SinkSeen) (r : Result Bool Stop) (b : Bool) → r ≡ Ok b → IfOk r (λ is_read. SpeaksAll words d is_read) → IfOk r (λ is_read. err.held ≡ d.after.err.held) → SpeaksAll words (then_err d err) b
+speaks_at words d err r b is done kept = go d.before.shelf.files d.before.source.left (subst (λ v. IfOk v (λ is_read. SpeaksAll words d is_read)) is done) where
+  same : err.held ≡ d.after.err.held
+  same = subst (λ v. IfOk v (λ is_read. err.held ≡ d.after.err.held)) is kept
+
+  go : (known : Option Files) (left : Option (List ℕ)) → IfSome known (λ files. IfSome left (λ input. SpeaksInput words d b files input)) → IfSome known (λ files. IfSome left (λ input. SpeaksInput words (then_err d err) b files input))
+  go None left s = tt
+  go (Some files) None s = tt
+  go (Some files) (Some input) s = record {
+    expressions = s.expressions;
+    accepted = s.accepted;
+    speaks = subst (λ held. Speaks (Cascade Rel s.expressions) (lines input) d.before.out.held d.after.out.held d.before.err.held held b) (sym same) s.speaks;
+  }
 
 -- what is known of a run that stopped
-pub record Known (words : List (String Global)) (known : Option Files) (left now : Option (List ℕ)) (Rises : Type 0) (r : Result Bool Stop) : Type 0 where
+pub record Known (words : List (String Global)) (known : Option Files) (left : Option (List ℕ)) (d : Observed) (r : Result Bool Stop) : Type 0 where
   pub wrong : r ≡ Err Words → setup_name words ≡ None
   pub refusals : IfErr r (λ s. IfSome known (λ files. StopsAs (Asks words files) s))
-  pub rises : r ≡ Err Outside → Rises
-  pub long : r ≡ Err TooLong → IfSome left (λ before. IsSomeAnd now (λ after. GaveMore before after))
+  pub rises : r ≡ Err Outside → SomeRose d
+  pub long : r ≡ Err TooLong → GaveTooMuch left d.after.source.left
 
 not_long : (input : List ℕ) (now : Option (List ℕ)) → length input ≤ 2 ^ 28 → IsSomeAnd now (λ after. GaveMore input after) → ⊥
 not_long input None l more = more
@@ -194,28 +209,28 @@ not_long input (Some after) l more = omega (arith, l, more)
 named : (words : List (String Global)) (files : Files) (es : List Expression) → Accepted words files es → setup_name words ≡ None → ⊥
 named words files e a none = let no_name : Some a.name ≡ None = sym a.is_command ∙ none in cc
 
-pub complete_end : (words : List (String Global)) (known : Option Files) (left now : Option (List ℕ)) (Rises : Type 0) (r : Result Bool Stop) (n : ℕ) → IsEnd n r → Known words known left now Rises r
-    → IfSome known (λ files. IfSome left (λ input. (es : List Expression) → Accepted words files es → length input ≤ 2 ^ 28 → (Rises → ⊥) → (n ≤ 1) ⊎ (n ≡ 5)))
-complete_end words None left now Rises r n end k = tt
-complete_end words (Some files) None now Rises r n end k = tt
-complete_end words (Some files) (Some input) now Rises (Ok true) n end k = λ e a l calm. inl (omega (arith, end))
-complete_end words (Some files) (Some input) now Rises (Ok false) n end k = λ e a l calm. inl (omega (arith, end))
-complete_end words (Some files) (Some input) now Rises (Err Words) n end k = λ e a l calm. absurd (named words files e a (k.wrong refl))
-complete_end words (Some files) (Some input) now Rises (Err (Refused text)) n end k = λ e a l calm. absurd (let same : spoken_by e ≡ refused text.items = k.refusals.only (spoken_by e) a in cc)
-complete_end words (Some files) (Some input) now Rises (Err Outside) n end k = λ e a l calm. absurd (calm (k.rises refl))
-complete_end words (Some files) (Some input) now Rises (Err Memory) n end k = λ e a l calm. elim end [ inl e ↦ inr e | inr e ↦ inr e ]
-complete_end words (Some files) (Some input) now Rises (Err TooLong) n end k = λ e a l calm. absurd (not_long input now l (k.long refl))
+pub complete_end : (words : List (String Global)) (known : Option Files) (left : Option (List ℕ)) (d : Observed) (r : Result Bool Stop) (n : ℕ) → IsEnd n r → Known words known left d r
+    → IfSome known (λ files. IfSome left (λ input. (es : List Expression) → Accepted words files es → length input ≤ 2 ^ 28 → (SomeRose d → ⊥) → (n ≤ 1) ⊎ (n ≡ 5)))
+complete_end words None left d r n end k = tt
+complete_end words (Some files) None d r n end k = tt
+complete_end words (Some files) (Some input) d (Ok true) n end k = λ e a l calm. inl (omega (arith, end))
+complete_end words (Some files) (Some input) d (Ok false) n end k = λ e a l calm. inl (omega (arith, end))
+complete_end words (Some files) (Some input) d (Err Words) n end k = λ e a l calm. absurd (named words files e a (k.wrong refl))
+complete_end words (Some files) (Some input) d (Err (Refused text)) n end k = λ e a l calm. absurd (let same : spoken_by e ≡ refused text.items = k.refusals.only (spoken_by e) a in cc)
+complete_end words (Some files) (Some input) d (Err Outside) n end k = λ e a l calm. absurd (calm (k.rises refl))
+complete_end words (Some files) (Some input) d (Err Memory) n end k = λ e a l calm. elim end [ inl e ↦ inr e | inr e ↦ inr e ]
+complete_end words (Some files) (Some input) d (Err TooLong) n end k = λ e a l calm. absurd (not_long input d.after.source.left l (k.long refl))
 
-tells_last : (n e e' e'' : ℕ) (old mid new : Option (List ℕ)) (faults : List ℕ) (t : Stop) → n ≡ status_of t → (status_of t == 5) ≡ false → TellsStop n e' e'' mid new t → e ≤ e' → AppendsPrefix old mid faults → TellsLast e e'' old new faults (text_of t)
-tells_last n e e' e'' old mid new faults t is other told later lines = record {
-  whole = elim told.whole [ inl five ↦ absurd (not_five t n is other five) | inr w ↦ elim w [ inl rose ↦ inl (let r : capped (e' + 1) ≤ e'' = rose in omega (arith, r, later)) | inr last ↦ inr (record { between = mid; lines = lines; last = last }) ] ];
-  front = elim told.front [ inl five ↦ absurd (not_five t n is other five) | inr last ↦ record { between = mid; lines = lines; last = last } ];
+tells_last : (n : ℕ) (old mid new : SinkSeen) (faults : List ℕ) (t : Stop) → n ≡ status_of t → (status_of t == 5) ≡ false → TellsStop n mid new t → old.faults ≤ mid.faults → AppendsPrefix old.held mid.held faults → TellsLast old new faults (text_of t)
+tells_last n old mid new faults t is other told later lines = record {
+  whole = elim told.whole [ inl five ↦ absurd (not_five t n is other five) | inr w ↦ elim w [ inl rose ↦ inl (let r : capped (mid.faults + 1) ≤ new.faults = rose in omega (arith, r, later)) | inr last ↦ inr (record { between = mid.held; lines = lines; last = last }) ] ];
+  front = elim told.front [ inl five ↦ absurd (not_five t n is other five) | inr last ↦ record { between = mid.held; lines = lines; last = last } ];
 }
 
 -- after a refusal nothing else stands in the errors
-pub told_words : (r : Result Bool Stop) (n e e' e'' : ℕ) (old mid new : Option (List ℕ)) → IsEnd n r → IfErr r (λ s. TellsStop n e' e'' mid new s) → n ≡ 2 → e ≤ e' → mid ≡ old → TellsLast e e'' old new [] (text_of Words)
-told_words r n e e' e'' old mid new end told is later same =
-    tells_last n e e' e'' old mid new [] Words is refl (subst (λ v. IfErr v (λ s. TellsStop n e' e'' mid new s)) (stopped_at r Words n end is refl refl) told) later (subst (λ m. AppendsPrefix old m []) (sym same) (prefix_none old []))
+pub told_words : (r : Result Bool Stop) (n : ℕ) (old mid new : SinkSeen) → IsEnd n r → IfErr r (λ s. TellsStop n mid new s) → n ≡ 2 → old.faults ≤ mid.faults → mid.held ≡ old.held → TellsLast old new [] (text_of Words)
+told_words r n old mid new end told is later same =
+    tells_last n old mid new [] Words is refl (subst (λ v. IfErr v (λ s. TellsStop n mid new s)) (stopped_at r Words n end is refl refl) told) later (subst (λ m. AppendsPrefix old.held m []) (sym same) (prefix_none old.held []))
 
 told_text : (words : List (String Global)) (known : Option Files) (text : List ℕ) (T : List ℕ → Type 0) → IfSome known (λ files. IsRefusal words files text) → T text → IfSome known (λ files. (other : List ℕ) → Asks words files (refused other) → T other)
 told_text words None text T one told = tt
@@ -224,36 +239,36 @@ told_text words (Some files) text T one told = λ other a.
     let same : text ≡ other = cc in
     subst T same told
 
-pub told_refusal : (words : List (String Global)) (known : Option Files) (r : Result Bool Stop) (n e e' e'' : ℕ) (old mid new : Option (List ℕ)) → IsEnd n r → IfErr r (λ s. TellsStop n e' e'' mid new s) → n ≡ 3 → e ≤ e' → mid ≡ old
+pub told_refusal : (words : List (String Global)) (known : Option Files) (r : Result Bool Stop) (n : ℕ) (old mid new : SinkSeen) → IsEnd n r → IfErr r (λ s. TellsStop n mid new s) → n ≡ 3 → old.faults ≤ mid.faults → mid.held ≡ old.held
     → IfErr r (λ s. IfSome known (λ files. StopsAs (Asks words files) s))
-    → IfSome known (λ files. (text : List ℕ) → Asks words files (refused text) → TellsLast e e'' old new [] text)
-told_refusal words known r n e e' e'' old mid new end told is later same refusals =
+    → IfSome known (λ files. (text : List ℕ) → Asks words files (refused text) → TellsLast old new [] text)
+told_refusal words known r n old mid new end told is later same refusals =
     let at = refused_at r n end is in
-    told_text words known at.text.items (λ t. TellsLast e e'' old new [] t) (refusal_known words known r at.text at.is refusals)
-    (tells_last n e e' e'' old mid new [] (Refused at.text) is refl (subst (λ v. IfErr v (λ s. TellsStop n e' e'' mid new s)) at.is told) later (subst (λ m. AppendsPrefix old m []) (sym same) (prefix_none old [])))
+    told_text words known at.text.items (λ t. TellsLast old new [] t) (refusal_known words known r at.text at.is refusals)
+    (tells_last n old mid new [] (Refused at.text) is refl (subst (λ v. IfErr v (λ s. TellsStop n mid new s)) at.is told) later (subst (λ m. AppendsPrefix old.held m []) (sym same) (prefix_none old.held [])))
 
-pub told_stop : (words : List (String Global)) (known : Option Files) (left : Option (List ℕ)) (r : Result Bool Stop) (t : Stop) (n e e' e'' : ℕ) (old mid new : Option (List ℕ)) → IsEnd n r → IfErr r (λ s. TellsStop n e' e'' mid new s) → n ≡ status_of t → (status_of t == 5) ≡ false → (status_of t == 3) ≡ false → e ≤ e'
-    → IfSome known (λ files. IfSome left (λ input. (output faults : List ℕ) → Owed words files input output faults → AppendsPrefix old mid faults))
-    → IfSome known (λ files. IfSome left (λ input. (output faults : List ℕ) → Owed words files input output faults → TellsLast e e'' old new faults (text_of t)))
-told_stop words None left r t n e e' e'' old mid new end told is other named later lines = tt
-told_stop words (Some files) None r t n e e' e'' old mid new end told is other named later lines = tt
-told_stop words (Some files) (Some input) r t n e e' e'' old mid new end told is other named later lines = λ output faults owed.
-    tells_last n e e' e'' old mid new faults t is other (subst (λ v. IfErr v (λ s. TellsStop n e' e'' mid new s)) (stopped_at r t n end is other named) told) later (lines output faults owed)
+pub told_stop : (words : List (String Global)) (known : Option Files) (left : Option (List ℕ)) (r : Result Bool Stop) (t : Stop) (n : ℕ) (old mid new : SinkSeen) → IsEnd n r → IfErr r (λ s. TellsStop n mid new s) → n ≡ status_of t → (status_of t == 5) ≡ false → (status_of t == 3) ≡ false → old.faults ≤ mid.faults
+    → IfSome known (λ files. IfSome left (λ input. (output faults : List ℕ) → Owed words files input output faults → AppendsPrefix old.held mid.held faults))
+    → IfSome known (λ files. IfSome left (λ input. (output faults : List ℕ) → Owed words files input output faults → TellsLast old new faults (text_of t)))
+told_stop words None left r t n old mid new end told is other named later lines = tt
+told_stop words (Some files) None r t n old mid new end told is other named later lines = tt
+told_stop words (Some files) (Some input) r t n old mid new end told is other named later lines = λ output faults owed.
+    tells_last n old mid new faults t is other (subst (λ v. IfErr v (λ s. TellsStop n mid new s)) (stopped_at r t n end is other named) told) later (lines output faults owed)
 
-may_tell : (words : List (String Global)) (files : Files) (input : List ℕ) (now : Option (List ℕ)) (Rises : Type 0) (s : Stop) → Known words (Some files) (Some input) now Rises (Err s) → MayTell words files Rises (IsSomeAnd now (λ after. GaveMore input after)) (last_text s)
-may_tell words files input now Rises Words k = wrong_words (k.wrong refl)
-may_tell words files input now Rises (Refused text) k = refusal text.items k.refusals.found
-may_tell words files input now Rises Outside k = outside (k.rises refl)
-may_tell words files input now Rises Memory k = no_text
-may_tell words files input now Rises TooLong k = too_long (k.long refl)
+may_tell : (words : List (String Global)) (files : Files) (input : List ℕ) (d : Observed) (s : Stop) → Known words (Some files) (Some input) d (Err s) → MayTell words d files input (last_text s)
+may_tell words files input d Words k = wrong_words (k.wrong refl)
+may_tell words files input d (Refused text) k = refusal text.items k.refusals.found
+may_tell words files input d Outside k = outside (k.rises refl)
+may_tell words files input d Memory k = no_text
+may_tell words files input d TooLong k = too_long (k.long refl)
 
-pub told_short : (words : List (String Global)) (known : Option Files) (left now : Option (List ℕ)) (Rises : Type 0) (r : Result Bool Stop) (n : ℕ) (old mid new : Option (List ℕ)) → IsEnd n r → n ≡ 5 → Known words known left now Rises r
-    → IfErr r (λ s. TellsTwice mid new (last_text s))
-    → IfSome known (λ files. IfSome left (λ input. (output faults : List ℕ) → Owed words files input output faults → AppendsPrefix old mid faults))
-    → IfSome known (λ files. IfSome left (λ input. (output faults : List ℕ) → Owed words files input output faults → TellsShort words files Rises (IsSomeAnd now (λ after. GaveMore input after)) old new faults))
-told_short words None left now Rises r n old mid new end five k twice lines = tt
-told_short words (Some files) None now Rises r n old mid new end five k twice lines = tt
-told_short words (Some files) (Some input) now Rises (Ok true) n old mid new end five k twice lines = absurd (omega (arith, end, five))
-told_short words (Some files) (Some input) now Rises (Ok false) n old mid new end five k twice lines = absurd (omega (arith, end, five))
-told_short words (Some files) (Some input) now Rises (Err s) n old mid new end five k twice lines = λ output faults owed.
-    record { between = mid; text = last_text s; cause = may_tell words files input now Rises s k; lines = lines output faults owed; last = twice }
+pub told_short : (words : List (String Global)) (known : Option Files) (left : Option (List ℕ)) (d : Observed) (r : Result Bool Stop) (n : ℕ) (mid : Option (List ℕ)) → IsEnd n r → n ≡ 5 → Known words known left d r
+    → IfErr r (λ s. TellsTwice mid d.after.err.held (last_text s))
+    → IfSome known (λ files. IfSome left (λ input. (output faults : List ℕ) → Owed words files input output faults → AppendsPrefix d.before.err.held mid faults))
+    → IfSome known (λ files. IfSome left (λ input. (output faults : List ℕ) → Owed words files input output faults → TellsShortOf words d files input faults))
+told_short words None left d r n mid end five k twice lines = tt
+told_short words (Some files) None d r n mid end five k twice lines = tt
+told_short words (Some files) (Some input) d (Ok true) n mid end five k twice lines = absurd (omega (arith, end, five))
+told_short words (Some files) (Some input) d (Ok false) n mid end five k twice lines = absurd (omega (arith, end, five))
+told_short words (Some files) (Some input) d (Err s) n mid end five k twice lines = λ output faults owed.
+    record { between = mid; text = last_text s; cause = may_tell words files input d s k; lines = lines output faults owed; last = twice }

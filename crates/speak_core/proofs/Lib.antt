@@ -2,7 +2,6 @@ pub mod Spoken
 pub mod LineAnswers
 pub mod SoFar
 pub mod Cascading
-pub mod Reordered
 pub mod Found
 pub mod Runs
 pub mod Endings

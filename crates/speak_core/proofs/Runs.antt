@@ -12,14 +12,15 @@ use Rattle.speak_core.specs.Accepted.{Accepted, Asked, Asks, SetupAsks, spoken_b
 use Rattle.speak_core.specs.Answers.{Answer, AllSpoken, written, told}
 use Rattle.speak_core.specs.Commands.{setup_name}
 use Rattle.text_lines.specs.Lines.{lines}
+use Rattle.speak_core.specs.Devices.{Observed}
 use Rattle.speak_core.specs.Loaded.{Loaded, StopsAs}
-use Rattle.speak_core.specs.Owed.{Owed, nothing, lines_of, SpeaksAll}
+use Rattle.speak_core.specs.Owed.{Owed, nothing, lines_of, SpeaksInput}
 use Rattle.speak_core.specs.Parts.{ReadsOf, Speaks}
 use Rattle.state_tuples.specs.Cascades.{Cascaded}
-use Rattle.speak_core.specs.Stops.{IsDeviceStop, IsReadingStop, IsRefusalStop}
+use Rattle.speak_core.specs.Stops.{IsDeviceStop, IsRefusalStop}
 use Rattle.speak_core.specs.declared.stop.Stop.{Stop}
 use Rattle.speak_core.specs.declared.stop.Stop.TheVariants as stop
-use Rattle.speak_core.proofs.Found.{Alike, stops_lift, device_stops}
+use Rattle.speak_core.proofs.Found.{Alike, device_stops}
 use Rattle.speak_core.proofs.Spoken.{all_spoken_to}
 
 pub asks_same : (words : List (String Global)) (files : Files) (name : List ℕ) → Some name ≡ setup_name words → Alike (SetupAsks files name) (Asks words files)
@@ -37,23 +38,6 @@ pub rules_only : (words : List (String Global)) (files : Files) (name : List ℕ
 rules_only words files name m es command l a =
     let both : spoken_by es ≡ spoken_by l.expressions = l.is_only.only (spoken_by es) ((asks_same words files name command).back (spoken_by es) a) in
     cc
-
--- the refusal of the rules is the refusal of a run
-pub run_stops : (words : List (String Global)) (known : Option Files) (name : List ℕ) (s : Stop) → Some name ≡ setup_name words → IfSome known (λ files. StopsAs (SetupAsks files name) s) → IfSome known (λ files. StopsAs (Asks words files) s)
-run_stops words None name s command h = tt
-run_stops words (Some files) name s command h = stops_lift (SetupAsks files name) (Asks words files) s (asks_same words files name command) h
-
-pub reading_stops : (words : List (String Global)) (known : Option Files) (s : Stop) → IsReadingStop s → IfSome known (λ files. StopsAs (Asks words files) s)
-reading_stops words None s h = tt
-reading_stops words (Some files) stop.Words h = tt
-reading_stops words (Some files) (stop.Refused text) h = absurd h
-reading_stops words (Some files) stop.Outside h = tt
-reading_stops words (Some files) stop.Memory h = tt
-reading_stops words (Some files) stop.TooLong h = tt
-
-pub words_stops : (words : List (String Global)) (known : Option Files) → IfSome known (λ files. StopsAs (Asks words files) stop.Words)
-words_stops words None = tt
-words_stops words (Some files) = tt
 
 ending_stops : (words : List (String Global)) (known : Option Files) (s : Stop) → IsDeviceStop s → IfSome known (λ files. StopsAs (Asks words files) s)
 ending_stops words None s h = tt
@@ -117,12 +101,12 @@ run_faults words None left name bytes m old new command l is front = tt
 run_faults words (Some files) None name bytes m old new command l is front = tt
 run_faults words (Some files) (Some input) name bytes m old new command l is front = λ output faults. owed_faults words files name input bytes m old new output faults command l is front
 
-pub run_speaks : (words : List (String Global)) (known : Option Files) (left : Option (List ℕ)) (name bytes : List ℕ) (m : Cascaded) (out out' err err' : Option (List ℕ)) (is_read : Bool) → Some name ≡ setup_name words → IfSome known (λ files. Loaded (SetupAsks files name) m) → IfSome left (λ input. bytes ≡ input)
-    → Speaks (ReadsOf m) (lines bytes) out out' err err' is_read
-    → IfSome known (λ files. IfSome left (λ input. SpeaksAll words files input out out' err err' is_read))
-run_speaks words None left name bytes m out out' err err' is_read command l is s = tt
-run_speaks words (Some files) None name bytes m out out' err err' is_read command l is s = tt
-run_speaks words (Some files) (Some input) name bytes m out out' err err' is_read command l is s = record {
+pub run_speaks : (words : List (String Global)) (known : Option Files) (left : Option (List ℕ)) (name bytes : List ℕ) (m : Cascaded) (d : Observed) (is_read : Bool) → Some name ≡ setup_name words → IfSome known (λ files. Loaded (SetupAsks files name) m) → IfSome left (λ input. bytes ≡ input)
+    → Speaks (ReadsOf m) (lines bytes) d.before.out.held d.after.out.held d.before.err.held d.after.err.held is_read
+    → IfSome known (λ files. IfSome left (λ input. SpeaksInput words d is_read files input))
+run_speaks words None left name bytes m d is_read command l is s = tt
+run_speaks words (Some files) None name bytes m d is_read command l is s = tt
+run_speaks words (Some files) (Some input) name bytes m d is_read command l is s = record {
   expressions = l.expressions;
   accepted = rules_accepted words files name m command l;
   speaks = record {
@@ -140,3 +124,8 @@ run_accepts words None name m command l = tt
 run_accepts words (Some files) name m command l = λ text a.
     let both : refused text ≡ spoken_by l.expressions = l.is_only.only (refused text) ((asks_same words files name command).back (refused text) a) in
     cc
+
+-- so a fault of what is refused is none of the lines'
+pub not_refused : (words : List (String Global)) (known : Option Files) (P : Type 0) → IfSome known (λ files. (text : List ℕ) → Asks words files (refused text) → ⊥) → IfSome known (λ files. (text : List ℕ) → Asks words files (refused text) → P)
+not_refused words None P h = tt
+not_refused words (Some files) P h = λ text a. absurd (h text a)

@@ -2,6 +2,7 @@ pub mod Commands
 pub mod Texts
 pub mod Accepted
 pub mod Answers
+pub mod Devices
 pub mod Owed
 pub mod Stops
 pub mod Inputs

@@ -1,6 +1,7 @@
 -- Why a run ends before its lines do: the status and the text of each stop, and what the counts of the devices say of it.
 use Rattle.std.specs.Prelude.{◌≡◌, ◌⊎◌, ℕ, List, [], ◌∷◌, ◌++◌, codes, Result, Ok, Err, Bool, true, false}
 use Rattle.norm_base.specs.Counts.{Rose}
+use Rattle.speak_core.specs.Devices.{Observed, SomeRose, NoneRose}
 use Rattle.speak_core.specs.declared.stop.Stop.{Stop}
 use Rattle.speak_core.specs.declared.stop.Stop.TheVariants.{Words, Refused, Outside, Memory, TooLong}
 
@@ -55,14 +56,6 @@ SinkCounts out out' err err' (Ok x) = (out' ≡ out) × (err' ≡ err)
 SinkCounts out out' err err' (Err Outside) = Rose out out' ⊎ Rose err err'
 SinkCounts out out' err err' (Err stop) = Unit {0}
 
--- the count of the shelf, the source, the output or the errors rose
-abbrev pub SomeRose : ℕ → ℕ → ℕ → ℕ → ℕ → ℕ → ℕ → ℕ → Type 0
-SomeRose h h' s s' o o' e e' = Rose h h' ⊎ (Rose s s' ⊎ (Rose o o' ⊎ Rose e e'))
-
--- the counts of all four stay
-abbrev pub NoneRose : ℕ → ℕ → ℕ → ℕ → ℕ → ℕ → ℕ → ℕ → Type 0
-NoneRose h h' s s' o o' e e' = (h' ≡ h) × (s' ≡ s) × (o' ≡ o) × (e' ≡ e)
-
 -- the words are wrong, or what they name is refused
 abbrev pub IsRefusalStop : Stop → Type 0
 IsRefusalStop Words = Unit {0}
@@ -70,11 +63,11 @@ IsRefusalStop (Refused text) = Unit {0}
 IsRefusalStop _ = ⊥
 
 -- The counts of all four: they stay where a run ends well or is refused, and one rose where it stops at an outside fault.
-abbrev pub AllCounts : {T : Type 0} → ℕ → ℕ → ℕ → ℕ → ℕ → ℕ → ℕ → ℕ → Result T Stop → Type 0
-AllCounts h h' s s' o o' e e' (Err Outside) = SomeRose h h' s s' o o' e e'
-AllCounts h h' s s' o o' e e' (Err Memory) = Unit {0}
-AllCounts h h' s s' o o' e e' (Ok x) = NoneRose h h' s s' o o' e e'
-AllCounts h h' s s' o o' e e' (Err stop) = NoneRose h h' s s' o o' e e'
+abbrev pub AllCounts : {T : Type 0} → Observed → Result T Stop → Type 0
+AllCounts d (Err Outside) = SomeRose d
+AllCounts d (Err Memory) = Unit {0}
+AllCounts d (Ok x) = NoneRose d
+AllCounts d (Err stop) = NoneRose d
 
 -- what ends the reading of a setup and its rule
 abbrev pub IsReadStop : Stop → Type 0

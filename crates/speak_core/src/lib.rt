@@ -14,6 +14,7 @@ mod batches;
 mod faults;
 mod loading;
 mod outside;
+mod preparing;
 mod rules;
 mod running;
 mod speaking;
@@ -26,6 +27,3 @@ mod words;
 pub use speak_setup::{Need, Setup, SetupFault, read_setup};
 pub use top::speak;
 pub use watch::{NoWatch, Watch};
-
-#[cfg(test)]
-mod tests;

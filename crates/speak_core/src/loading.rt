@@ -1,6 +1,6 @@
 // From the files of a shelf to the cascade that they name.
 
-ghost use Rattle.std.specs.Prelude.{◌≡◌, ◌≤◌, All, length, IfErr, IfOk, IfSome};
+ghost use Rattle.std.specs.Prelude.{◌≡◌, ◌≤◌, All, IfErr, IfOk, IfSome};
 ghost use Rattle.weighted_relations.specs.Relations.{IsUnmarked};
 ghost use Rattle.speak_setup.specs.Setups.{HasNames, names_of};
 ghost use Rattle.thrax_link.specs.Exports.{exports_of};
@@ -41,7 +41,6 @@ pub(crate) fn find_cascade<H: Shelf>(
 fn find_setup<H: Shelf>(alloc: Global, shelf: &mut H, name: &str) -> Result<Setup, Stop>
     ensures finds { IfSome (H.files shelf.old) (λ files. FindsSetup files name.now result) }
     ensures names { IfOk result (λ setup. HasNames (names_of setup)) }
-    ensures few { IfOk result (λ setup. length (names_of setup).tokenizer_rules ≤ 4) }
     ensures files { H.files shelf.new ≡ H.files shelf.old }
     ensures counts { Counts (H.faults shelf.old) (H.faults shelf.new) result }
     ensures stops { IfErr result IsReadStop }
@@ -60,8 +59,7 @@ fn find_setup<H: Shelf>(alloc: Global, shelf: &mut H, name: &str) -> Result<Setu
 
 /// The cascade of the rules of a setup.
 fn find_named<H: Shelf>(alloc: Global, shelf: &mut H, setup: &Setup) -> Result<Cascade, Stop>
-    requires names { HasNames (names_of setup.now) }
-    requires few { length (names_of setup.now).tokenizer_rules ≤ 4 }
+    requires { HasNames (names_of setup.now) }
     ensures finds { IfSome (H.files shelf.old) (λ files. Finds (NamesAsk files (names_of setup.now)) result) }
     ensures unmarked { IfOk result (λ found. IsUnmarked (ReadsOf found)) }
     ensures files { H.files shelf.new ≡ H.files shelf.old }

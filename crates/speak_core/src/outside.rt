@@ -1,10 +1,10 @@
 // The devices, with the stops of a run in place of their own faults.
 
-ghost use Rattle.std.specs.Prelude.{◌≡◌, ◌<◌, ◌≤◌, ◌^◌, ◌↔◌, OnOk, IfOk, IfErr, IfSome, IsErrOf, IsSomeAnd, length};
+ghost use Rattle.std.specs.Prelude.{◌≡◌, ◌<◌, ◌≤◌, ◌^◌, ◌↔◌, OnOk, IfOk, IfErr, IfSome, IsErrOf, length};
 ghost use Rattle.std.specs.Io.KnownBytes.{Appends, Consumes, IsAtEnd};
 ghost use Rattle.norm_base.specs.Bytes.{AppendsPrefix};
 ghost use Rattle.norm_base.specs.Files.{Fetches};
-ghost use Rattle.speak_core.specs.Inputs.{GaveMore};
+ghost use Rattle.speak_core.specs.Inputs.{GaveTooMuch, IfGaveTooMuch};
 ghost use Rattle.speak_core.specs.Stops.{Counts, IsDeviceStop, IsReadingStop};
 
 use crate::stop::Stop;
@@ -48,8 +48,8 @@ pub(crate) fn read_all<S: Source>(alloc: Global, source: &mut S) -> Result<Vec<u
     ensures all { IfOk result (λ bytes. IfSome (S.left source.old) (λ left. bytes.items ≡ left)) }
     ensures end { OnOk result (IsAtEnd (S.left source.new)) }
     ensures within { IfOk result (λ bytes. length bytes.items ≤ 2 ^ 28) }
-    ensures too_long { IsErrOf result Stop.TooLong → IfSome (S.left source.old) (λ before. IsSomeAnd (S.left source.new) (λ now. GaveMore before now)) }
-    ensures only_too_long { IfSome (S.left source.old) (λ before. IfSome (S.left source.new) (λ now. GaveMore before now → IsErrOf result Stop.TooLong)) }
+    ensures too_long { IsErrOf result Stop.TooLong → GaveTooMuch (S.left source.old) (S.left source.new) }
+    ensures only_too_long { IfGaveTooMuch (S.left source.old) (S.left source.new) (IsErrOf result Stop.TooLong) }
     ensures counts { Counts (S.faults source.old) (S.faults source.new) result }
     ensures stops { IfErr result IsReadingStop }
 {

@@ -6,27 +6,23 @@ ghost use Rattle.weighted_relations.specs.Machines.{Reads};
 ghost use Rattle.weighted_relations.specs.Relations.{IsUnmarked, Same};
 ghost use Rattle.core_expressions.specs.Views.{expression_of};
 ghost use Rattle.grammar_build.specs.Empties.{RewritesEmptyText};
+ghost use Rattle.speak_setup.specs.Setups.{most_rules};
 ghost use Rattle.thrax_link.specs.Exports.{expression_named, exports_of};
 ghost use Rattle.speak_core.specs.Accepted.{FirstEmpty, RulesAsk, checked, named};
 ghost use Rattle.speak_core.specs.Loaded.{AreBuilt, CanBeBuilt, Finds, TellsEmpty, TellsFirstEmpty, TellsText};
 ghost use Rattle.speak_core.specs.Parts.{ReadsOf};
 ghost use Rattle.speak_core.specs.Stops.{IsBuildStop};
 
+use crate::preparing::prepared;
 use crate::stop::Stop;
 use crate::texts;
-use compose_filter::ByInput;
 use core_expressions::Expr;
 use fst_core::Fst;
 use grammar_build::{BuildFault, build};
-use merged_arcs::merge_arcs;
 use norm_base::Name;
 use state_tuples::Cascade;
-use std::alloc::{AllocError, Global};
-use std::cmp::max;
+use std::alloc::Global;
 use thrax_link::Grammar;
-
-/// A transducer may grow to so many states where its arcs are merged, or to twice its own.
-const FEW_STATES: usize = 1000;
 
 /// The cascade of the rules of these names, in order. All are looked up before the first is built.
 pub(crate) fn cascade_of(
@@ -36,7 +32,7 @@ pub(crate) fn cascade_of(
     names: &[Name],
 ) -> Result<Cascade, Stop>
     requires some { 1 ≤ length names.now }
-    requires few { length names.now ≤ 4 }
+    requires few { length names.now ≤ most_rules }
     ensures finds { Finds (RulesAsk file.now names.now (exports_of grammar.now)) result }
     ensures unmarked { IfOk result (λ found. IsUnmarked (ReadsOf found)) }
     ensures stops { IfErr result IsBuildStop }
@@ -122,36 +118,10 @@ fn build_one(alloc: Global, name: &Name, rule: &Expr) -> Result<Fst, Stop>
 {
     match build(alloc, rule) {
         Ok(fst) => {
-            let part = prepared(alloc, &fst)?;
+            let part = prepared(alloc, fst)?;
             Ok(part)
         }
         Err(BuildFault::RewritesEmpty) => Err(Stop::refused(texts::rewrites_empty(alloc, name))),
         Err(BuildFault::Memory) => Err(Stop::Memory),
     }
-}
-
-/// The same transducer without two arcs of a state that say the same, where it doesn't grow much by that, and with the arcs of each state
-/// in order. So what a rewrite has to guess of the text to come waits until it matters, and a search follows fewer states.
-fn prepared(alloc: Global, fst: &Fst) -> Result<Fst, AllocError>
-    ensures { IfOk result (λ m. Same (Reads m) (Reads fst.now)) }
-{
-    let most = max(2 * fst.len(), FEW_STATES);
-    match merge_arcs(alloc, fst, most)? {
-        Some(merged) => {
-            let part = in_order(alloc, &merged)?;
-            Ok(part)
-        }
-        None => {
-            let part = in_order(alloc, fst)?;
-            Ok(part)
-        }
-    }
-}
-
-/// The same transducer with the arcs of each state in the order of their inputs, so that a search finds those of a label.
-fn in_order(alloc: Global, fst: &Fst) -> Result<Fst, AllocError>
-    ensures { IfOk result (λ m. Same (Reads m) (Reads fst.now)) }
-{
-    let sorted = ByInput::new(alloc, fst)?;
-    Ok(sorted.into_fst())
 }

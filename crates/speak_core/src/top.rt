@@ -1,14 +1,16 @@
 // The top call.
 
-ghost use Rattle.std.specs.Prelude.{◌≡◌, ◌⊎◌, ◌≤◌, ◌^◌, IfErr, IfOk, IfSome, IsSomeAnd, length, List, [], ℕ, None, true, false};
+ghost use Rattle.std.specs.Prelude.{◌≡◌, ◌⊎◌, ◌≤◌, ◌^◌, IfErr, IfOk, IfSome, length, List, [], ℕ, None, true, false};
 ghost use Rattle.std.specs.Io.KnownBytes.{IsAtEnd};
 ghost use Rattle.norm_base.specs.Bytes.{AppendsPrefix};
+ghost use Rattle.norm_base.specs.Counts.{Rose};
 ghost use Rattle.weighted_relations.specs.Expressions.{Expression};
 ghost use Rattle.speak_core.specs.Accepted.{Accepted, Asks, IsRefusal, refused};
 ghost use Rattle.speak_core.specs.Commands.{setup_name};
-ghost use Rattle.speak_core.specs.Inputs.{GaveMore};
-ghost use Rattle.speak_core.specs.Owed.{Owed, SpeaksAll};
-ghost use Rattle.speak_core.specs.Stops.{IsEnd, IsStatus, NoneRose, SomeRose, text_of, last_text};
+ghost use Rattle.speak_core.specs.Devices.{NoneRose, OfInput, SomeRose, seen, sink_seen};
+ghost use Rattle.speak_core.specs.Inputs.{GaveTooMuch, IfGaveTooMuch};
+ghost use Rattle.speak_core.specs.Owed.{OfOwed, SpeaksAll};
+ghost use Rattle.speak_core.specs.Stops.{IsEnd, IsStatus, text_of, last_text};
 ghost use Rattle.speak_core.specs.declared.stop.Stop.TheVariants.{Words, Outside, Memory, TooLong};
 ghost use Rattle.speak_core.specs.Told.{TellsLast, TellsShort, TellsStop, TellsTwice};
 
@@ -23,13 +25,13 @@ use std::thread::Threads;
 /// Speaks the lines of the source by the cascade of rules that the words and the files of the shelf name, and answers the status.
 ///
 /// The words after the program's name are `--setup`, the name of a setup, `--mode` and `classify`. The setup's grammar is linked
-/// with all that it imports, and its one to four rules are looked up and built. Then the whole input is read, of at most
+/// with all that it imports, and its rules, one to `speak_setup::MOST_RULES`, are looked up and built. Then the whole input is read, of at most
 /// 268,435,456 bytes, and `out` gets for each line the output of its least reading through all rules, one after another, and a
 /// LF, or the LF alone where the line is refused. `err` gets the number of each such line with its first fault: a byte 0, more
 /// than 16,384 bytes, or no reading. An empty line says nothing and isn't refused.
 ///
 /// Status 0: each line was read. 1: some line is refused. 2: the words are wrong. 3: the setup, a grammar or a rule is
-/// refused. 4: a device failed. 5: memory is wanting. 6: the input is too long. From 2 on, the cause is told to `err` last.
+/// refused. 4: a device failed, in place of 3 the shelf. 5: memory is wanting. 6: the input is too long. From 2 on, the cause is told to `err` last.
 ///
 /// The watch isn't told of any line yet.
 pub fn speak<R: Threads + Sync, H: Shelf, S: Source, O: Sink, E: Sink, W: Watch + Sync>(
@@ -44,51 +46,44 @@ pub fn speak<R: Threads + Sync, H: Shelf, S: Source, O: Sink, E: Sink, W: Watch 
 ) -> u8
     ensures range { result ≤ 6 }
 
-    // The cause of each status.
+    // The cause of each status. Of a setup, a grammar or a rule that is refused, a fault of a device is the shelf's.
     ensures wrong_words { result ≡ 2 → setup_name words.now ≡ None }
     ensures only_wrong_words { setup_name words.now ≡ None → (result ≡ 2) ⊎ (result ≡ 5) }
     ensures refused { result ≡ 3 → IfSome (H.files shelf.old) (λ files. (text : List ℕ) × IsRefusal words.now files text) }
-    ensures only_refused { IfSome (H.files shelf.old) (λ files. (text : List ℕ) → Asks words.now files (refused text) → (result ≡ 3) ⊎ ((result ≡ 4) ⊎ (result ≡ 5))) }
-    ensures outside { result ≡ 4 → SomeRose (H.faults shelf.old) (H.faults shelf.new) (S.faults source.old) (S.faults source.new)
-        (O.faults out.old) (O.faults out.new) (E.faults err.old) (E.faults err.new) }
-    ensures too_long { result ≡ 6 → IfSome (S.left source.old) (λ before. IsSomeAnd (S.left source.new) (λ now. GaveMore before now)) }
-    ensures only_too_long { IfSome (S.left source.old) (λ before. IfSome (S.left source.new) (λ now. GaveMore before now → (result ≡ 6) ⊎ (result ≡ 5))) }
-    ensures quiet { result ≤ 1 → NoneRose (H.faults shelf.old) (H.faults shelf.new) (S.faults source.old) (S.faults source.new)
-        (O.faults out.old) (O.faults out.new) (E.faults err.old) (E.faults err.new) }
+    ensures only_refused { IfSome (H.files shelf.old) (λ files. (text : List ℕ) → Asks words.now files (refused text)
+        → (result ≡ 3) ⊎ ((result ≡ 5) ⊎ ((result ≡ 4) × Rose (H.faults shelf.old) (H.faults shelf.new)))) }
+    ensures outside { let devices = seen H.Shelf S.Source O.Sink E.Sink shelf.old source.old out.old err.old shelf.new source.new out.new err.new in
+        result ≡ 4 → SomeRose devices }
+    ensures too_long { result ≡ 6 → GaveTooMuch (S.left source.old) (S.left source.new) }
+    ensures only_too_long { IfGaveTooMuch (S.left source.old) (S.left source.new) ((result ≡ 6) ⊎ (result ≡ 5)) }
+    ensures quiet { let devices = seen H.Shelf S.Source O.Sink E.Sink shelf.old source.old out.old err.old shelf.new source.new out.new err.new in
+        result ≤ 1 → NoneRose devices }
 
     // What is written for the lines.
-    ensures read { result ≡ 0 → IfSome (H.files shelf.old) (λ files. IfSome (S.left source.old) (λ input.
-        SpeaksAll words.now files input (O.held out.old) (O.held out.new) (E.held err.old) (E.held err.new) true)) }
-    ensures some_refused { result ≡ 1 → IfSome (H.files shelf.old) (λ files. IfSome (S.left source.old) (λ input.
-        SpeaksAll words.now files input (O.held out.old) (O.held out.new) (E.held err.old) (E.held err.new) false)) }
+    ensures read { let devices = seen H.Shelf S.Source O.Sink E.Sink shelf.old source.old out.old err.old shelf.new source.new out.new err.new in
+        result ≡ 0 → SpeaksAll words.now devices true }
+    ensures some_refused { let devices = seen H.Shelf S.Source O.Sink E.Sink shelf.old source.old out.old err.old shelf.new source.new out.new err.new in
+        result ≡ 1 → SpeaksAll words.now devices false }
     ensures end { result ≤ 1 → IsAtEnd (S.left source.new) }
-    ensures front { IfSome (H.files shelf.old) (λ files. IfSome (S.left source.old) (λ input. (output faults : List ℕ)
-        → Owed words.now files input output faults → AppendsPrefix (O.held out.old) (O.held out.new) output)) }
+    ensures front { let devices = seen H.Shelf S.Source O.Sink E.Sink shelf.old source.old out.old err.old shelf.new source.new out.new err.new in
+        OfOwed words.now devices (λ output faults. AppendsPrefix (O.held out.old) (O.held out.new) output) }
     ensures silent { (result ≡ 2) ⊎ (result ≡ 3) → O.held out.new ≡ O.held out.old }
 
     // With all accepted, no count that rose and an input within its limit, the lines are spoken or memory is wanting.
-    ensures complete { IfSome (H.files shelf.old) (λ files. IfSome (S.left source.old) (λ input. (es : List Expression)
-        → Accepted words.now files es → length input ≤ 2 ^ 28
-        → (SomeRose (H.faults shelf.old) (H.faults shelf.new) (S.faults source.old) (S.faults source.new)
-        (O.faults out.old) (O.faults out.new) (E.faults err.old) (E.faults err.new) → ⊥)
-        → (result ≤ 1) ⊎ (result ≡ 5))) }
+    ensures complete { let devices = seen H.Shelf S.Source O.Sink E.Sink shelf.old source.old out.old err.old shelf.new source.new out.new err.new in
+        OfInput devices (λ files input. (es : List Expression) → Accepted words.now files es → length input ≤ 2 ^ 28 → (SomeRose devices → ⊥)
+        → (result ≤ 1) ⊎ (result ≡ 5)) }
 
     // What is told last.
-    ensures told_words { result ≡ 2 → TellsLast (E.faults err.old) (E.faults err.new) (E.held err.old) (E.held err.new) [] (text_of Words) }
+    ensures told_words { result ≡ 2 → TellsLast (sink_seen E.Sink err.old) (sink_seen E.Sink err.new) [] (text_of Words) }
     ensures told_refused { result ≡ 3 → IfSome (H.files shelf.old) (λ files. (text : List ℕ) → Asks words.now files (refused text)
-        → TellsLast (E.faults err.old) (E.faults err.new) (E.held err.old) (E.held err.new) [] text) }
-    ensures told_outside { result ≡ 4 → IfSome (H.files shelf.old) (λ files. IfSome (S.left source.old) (λ input. (output faults : List ℕ)
-        → Owed words.now files input output faults
-        → TellsLast (E.faults err.old) (E.faults err.new) (E.held err.old) (E.held err.new) faults (text_of Outside))) }
-    ensures told_too_long { result ≡ 6 → IfSome (H.files shelf.old) (λ files. IfSome (S.left source.old) (λ input. (output faults : List ℕ)
-        → Owed words.now files input output faults
-        → TellsLast (E.faults err.old) (E.faults err.new) (E.held err.old) (E.held err.new) faults (text_of TooLong))) }
-    ensures told_memory { result ≡ 5 → IfSome (H.files shelf.old) (λ files. IfSome (S.left source.old) (λ input. (output faults : List ℕ)
-        → Owed words.now files input output faults
-        → TellsShort words.now files
-        (SomeRose (H.faults shelf.old) (H.faults shelf.new) (S.faults source.old) (S.faults source.new)
-        (O.faults out.old) (O.faults out.new) (E.faults err.old) (E.faults err.new))
-        (IsSomeAnd (S.left source.new) (λ now. GaveMore input now)) (E.held err.old) (E.held err.new) faults)) }
+        → TellsLast (sink_seen E.Sink err.old) (sink_seen E.Sink err.new) [] text) }
+    ensures told_outside { let devices = seen H.Shelf S.Source O.Sink E.Sink shelf.old source.old out.old err.old shelf.new source.new out.new err.new in
+        result ≡ 4 → OfOwed words.now devices (λ output faults. TellsLast devices.before.err devices.after.err faults (text_of Outside)) }
+    ensures told_too_long { let devices = seen H.Shelf S.Source O.Sink E.Sink shelf.old source.old out.old err.old shelf.new source.new out.new err.new in
+        result ≡ 6 → OfOwed words.now devices (λ output faults. TellsLast devices.before.err devices.after.err faults (text_of TooLong)) }
+    ensures told_memory { let devices = seen H.Shelf S.Source O.Sink E.Sink shelf.old source.old out.old err.old shelf.new source.new out.new err.new in
+        result ≡ 5 → TellsShort words.now devices }
 
     ensures unread { (result ≡ 2) ⊎ (result ≡ 3) → S.left source.new ≡ S.left source.old }
     ensures files { H.files shelf.new ≡ H.files shelf.old }
@@ -101,7 +96,7 @@ fn finish<E: Sink>(ended: Result<bool, Stop>, err: &mut E) -> u8
     ensures status { IsEnd result ended }
     ensures kept { IfOk ended (λ is_read. E.held err.new ≡ E.held err.old) }
     ensures kept_count { IfOk ended (λ is_read. E.faults err.new ≡ E.faults err.old) }
-    ensures told { IfErr ended (λ stop. TellsStop result (E.faults err.old) (E.faults err.new) (E.held err.old) (E.held err.new) stop) }
+    ensures told { IfErr ended (λ stop. TellsStop result (sink_seen E.Sink err.old) (sink_seen E.Sink err.new) stop) }
     ensures short { result ≡ 5 → IfErr ended (λ stop. TellsTwice (E.held err.old) (E.held err.new) (last_text stop)) }
     ensures later { E.faults err.old ≤ E.faults err.new }
 {
@@ -115,7 +110,7 @@ fn finish<E: Sink>(ended: Result<bool, Stop>, err: &mut E) -> u8
 /// Tells why a run stopped, and answers its status; that of want of memory where memory is wanting for the text.
 fn tell<E: Sink>(err: &mut E, stop: &Stop) -> u8
     ensures status { IsStatus result stop.now }
-    ensures told { TellsStop result (E.faults err.old) (E.faults err.new) (E.held err.old) (E.held err.new) stop.now }
+    ensures told { TellsStop result (sink_seen E.Sink err.old) (sink_seen E.Sink err.new) stop.now }
     ensures short { result ≡ 5 → TellsTwice (E.held err.old) (E.held err.new) (last_text stop.now) }
     ensures later { E.faults err.old ≤ E.faults err.new }
 {

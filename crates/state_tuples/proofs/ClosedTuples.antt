@@ -10,10 +10,11 @@ use Rattle.compose_filter.proofs.Numbering.{finals_of}
 use Rattle.state_tuples.specs.declared.tuples.Tuple.{Tuple}
 use Rattle.state_tuples.specs.declared.tuples.TupleArc.{TupleArc}
 use Rattle.state_tuples.specs.Positions.{back, bits, padded}
-use Rattle.state_tuples.specs.Expansions.{expansion, finality}
+use Rattle.compose_filter.specs.Expansions.{expansion, finality}
 use Rattle.state_tuples.specs.Cascades.{Cascaded, IsSound, IsOf, no_part, backwards, position_of, first_tuple, moves_of, end_of, tuple_arc}
 use Rattle.state_tuples.specs.Bounds.{MoveFits, IsClosed}
-use Rattle.state_tuples.proofs.StepMoves.{Lengths, longer, move_lengths, step_moves, from_map}
+use Rattle.compose_filter.proofs.Named.{step_moves, from_map}
+use Rattle.state_tuples.proofs.Lengths.{Lengths, longer, move_lengths}
 use Rattle.state_tuples.proofs.Places.{Placed, placed, placed_states, length_back, length_filters, length_padded, padded_past, bits_small}
 
 -- a move of some parts

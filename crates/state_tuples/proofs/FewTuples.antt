@@ -1,19 +1,14 @@
 -- The tuples of a cascade are few: their filters and states are the digits of a number.
-use Rattle.std.specs.Prelude.{◌≡◌, ◌<◌, ℕ, zero, suc, ◌+◌, ◌-◌, ◌*◌, ◌^◌, ◌/◌, ◌%◌, get_or, length}
+use Rattle.std.specs.Prelude.{◌≡◌, ◌<◌, ℕ, zero, suc, ◌+◌, ◌-◌, ◌*◌, ◌^◌, get_or, length}
 use Rattle.std.proofs.Common.{sym, ◌∙◌, ap, subst, arith, inl, inr}
 use Rattle.std.proofs.lemmas.List.{ext_get_or}
-use Rattle.std.proofs.lemmas.Nat.{mul-add-lt, div-mul-add, mod-mul-add}
+use Rattle.std.proofs.lemmas.Nat.{mul-add-lt}
 use Rattle.std.proofs.lemmas.Bool.{cases_lt}
 use Rattle.state_tuples.specs.declared.tuples.Tuple.{Tuple}
+use Rattle.state_tuples.specs.Positions.{most_parts}
+use Rattle.state_tuples.proofs.Digits.{same_digits}
 use Rattle.state_tuples.specs.Cascades.{Cascaded, IsOf, no_part}
 use Rattle.state_tuples.specs.Bounds.{AreFew}
-
--- the digits again
-same_digits : (a n b a' b' : ℕ) → b < n → b' < n → a * n + b ≡ a' * n + b' → (a ≡ a') × (b ≡ b')
-same_digits a n b a' b' l l' e = (
-  sym (div-mul-add a n b l) ∙ (ap (λ t. t / n) e ∙ div-mul-add a' n b' l'),
-  sym (mod-mul-add a n b l) ∙ (ap (λ t. t % n) e ∙ mod-mul-add a' n b' l'),
-)
 
 module _ (c : Cascaded) where
   -- more than each state of a part; 1 past the last part
@@ -52,9 +47,9 @@ module _ (c : Cascaded) where
         ],
       )
 
-  apart : (t u : Tuple) → IsOf c t → IsOf c u → digits t 4 ≡ digits u 4 → t ≡ u
+  apart : (t u : Tuple) → IsOf c t → IsOf c u → digits t most_parts ≡ digits u most_parts → t ≡ u
   apart t u g h e =
-      let d = digits_apart t u 4 g h e in
+      let d = digits_apart t u most_parts g h e in
       let states : t.states ≡ u.states = ext_get_or 0 t.states u.states (g.width ∙ sym h.width) (λ i l. d.1 i (let w = g.width in omega arith)) in
       let number : t.cascade ≡ u.cascade = g.number ∙ sym h.number in
       ap (λ n. record { cascade = n; states = t.states; filters = t.filters }) number
@@ -63,7 +58,7 @@ module _ (c : Cascaded) where
 
   pub tuples_are_few : AreFew c
   tuples_are_few = record {
-    bound = limit 4;
-    code = λ t. digits t 4;
-    numbered = record { below = λ t h. digits_small t 4 h; apart = apart };
+    bound = limit most_parts;
+    code = λ t. digits t most_parts;
+    numbered = record { below = λ t h. digits_small t most_parts h; apart = apart };
   }

@@ -1,12 +1,11 @@
-pub mod Rows
 pub mod Padded
 pub mod FewTuples
-pub mod StepMoves
+pub mod Lengths
+pub mod Digits
 pub mod Places
 pub mod ClosedTuples
 pub mod PartReadings
 pub mod TuplePaths
-pub mod Readers
 pub mod Counted
 pub mod Lists
 pub mod Staged

@@ -5,18 +5,6 @@ use Rattle.std.proofs.Common.{refl, sym, ◌∙◌, ap}
 use Rattle.std.proofs.lemmas.List.{map-append}
 use Rattle.std.proofs.lemmas.List.Elements.{filter-append, All-head, All-tail, All-nil, All-cons, All-append}
 
-pub map_cond : {X Y : Type 0} (k : X → Y) (b : Bool) (x : X) → option_map k (cond b (Some x) None) ≡ cond b (Some (k x)) None
-map_cond k true x = refl
-map_cond k false x = refl
-
-map_cons_option : {X Y : Type 0} (k : X → Y) (o : Option X) (xs : List X) → map k (cons_option o xs) ≡ cons_option (option_map k o) (map k xs)
-map_cons_option k None xs = refl
-map_cons_option k (Some x) xs = refl
-
-pub map_filter_map : {W X Y : Type 0} (k : X → Y) (h : W → Option X) (g : W → Option Y) → ((w : W) → option_map k (h w) ≡ g w) → (ws : List W) → map k (filter_map h ws) ≡ filter_map g ws
-map_filter_map k h g e [] = refl
-map_filter_map k h g e (w ∷ ws) = map_cons_option k (h w) (filter_map h ws) ∙ (ap (λ o. cons_option o (map k (filter_map h ws))) (e w) ∙ ap (cons_option (g w)) (map_filter_map k h g e ws))
-
 -- all that is kept passes the test, or none of it
 pub passed_alike : {W Y : Type 0} (p : Y → Bool) (h : W → Option Y) (b : Bool) → ((w : W) (y : Y) → h w ≡ Some y → p y ≡ b) → (ws : List W) → filter p (filter_map h ws) ≡ cond b (filter_map h ws) []
 passed_alike p h true e [] = refl

@@ -1,32 +1,14 @@
 -- Lists of states with zeros after them.
-use Rattle.std.specs.Prelude.{◌≡◌, ℕ, zero, suc, ◌+◌, ◌<◌, ◌≤◌, ◌-◌, List, [], ◌∷◌, length, get_or, set}
+use Rattle.std.specs.Prelude.{◌≡◌, ℕ, zero, suc, ◌+◌, ◌<◌, ◌≤◌, ◌-◌, List, length, get_or, set}
 use Rattle.std.proofs.Common.{refl, sym, ◌∙◌, ap, subst, inl, inr, arith}
-use Rattle.std.proofs.lemmas.List.{get_or-set_same, get_or-set_other, length-set}
+use Rattle.std.proofs.lemmas.List.{get_or-set_same, get_or-set_other}
 use Rattle.std.proofs.lemmas.Bool.{cases_lt}
 use Rattle.std.proofs.lemmas.Nat.{pow_pos}
 use Rattle.weighted_relations.specs.Machines.{Machine, WellFormed}
 use Rattle.compose_filter.specs.ComposedPaths.{starts}
-use Rattle.state_tuples.specs.Positions.{back, padded}
+use Rattle.state_tuples.specs.Positions.{back, most_parts, padded}
+use Rattle.state_tuples.proofs.Places.{length_back, length_padded, padded_past}
 use Rattle.state_tuples.specs.Cascades.{Cascaded, IsOf, IsSound, no_part, backwards, first_tuple}
-
-pub length-back : {X : Type 0} (d : X) (xs : List X) (k : ℕ) → length (back d xs k) ≡ k
-length-back d xs zero = refl
-length-back d xs (suc k) = ap suc (length-back d xs k)
-
-pub length-padded : (qs : List ℕ) → length (padded qs) ≡ 4
-length-padded [] = refl
-length-padded (q ∷ qs) = length-set (padded qs) (length qs) q ∙ length-padded qs
-
--- past the states there are zeros
-pub padded_past : (qs : List ℕ) (k : ℕ) → length qs ≤ k → get_or (padded qs) k 0 ≡ 0
-padded_past [] zero l = refl
-padded_past [] (suc zero) l = refl
-padded_past [] (suc (suc zero)) l = refl
-padded_past [] (suc (suc (suc zero))) l = refl
-padded_past [] (suc (suc (suc (suc k)))) l = refl
-padded_past (q ∷ qs) k l =
-    let n : k ≡ length qs → ⊥ = λ e. omega arith in
-    get_or-set_other (padded qs) (length qs) k q 0 n ∙ padded_past qs k (omega arith)
 
 -- where the first n parts start
 pub length-starts : (ms : List Machine) (n : ℕ) → length (starts (back no_part ms n)) ≡ n
@@ -36,11 +18,11 @@ length-starts ms (suc n) = ap suc (length-starts ms n)
 pub starts_more : (ms : List Machine) (n : ℕ) → padded (starts (back no_part ms (suc n))) ≡ set (padded (starts (back no_part ms n))) n (get_or ms n no_part).start
 starts_more ms n = ap (λ i. set (padded (starts (back no_part ms n))) i (get_or ms n no_part).start) (length-starts ms n)
 
-pub starts_at : (ms : List Machine) (n k : ℕ) → n ≤ 4 → k < n → get_or (padded (starts (back no_part ms n))) k 0 ≡ (get_or ms k no_part).start
+pub starts_at : (ms : List Machine) (n k : ℕ) → n ≤ most_parts → k < n → get_or (padded (starts (back no_part ms n))) k 0 ≡ (get_or ms k no_part).start
 starts_at ms zero k few l = absurd (omega arith)
 starts_at ms (suc n) k few l =
     let xs = padded (starts (back no_part ms n)) in
-    let w : length xs ≡ 4 = length-padded (starts (back no_part ms n)) in
+    let w : length xs ≡ most_parts = length_padded (starts (back no_part ms n)) in
     let here : n < length xs = omega arith in
     ap (λ t. get_or t k 0) (starts_more ms n) ∙ elim (cases_lt k n) [
       | inl low ↦ get_or-set_other xs n k (get_or ms n no_part).start 0 (λ e. omega arith) ∙ starts_at ms n k (omega arith) low
@@ -52,10 +34,10 @@ starts_at ms (suc n) k few l =
 pub starts_known : (c : Cascaded) → IsSound c → IsOf c (first_tuple c)
 starts_known c h =
     let n = length c.parts in
-    let few : n ≤ 4 = h.few in
+    let few : n ≤ most_parts = h.few in
     record {
       number = refl;
-      width = length-padded (starts (backwards c));
+      width = length_padded (starts (backwards c));
       states = λ k l.
           let w : WellFormed (get_or c.parts k no_part) = h.parts k no_part l in
           subst (λ s. s < length (get_or c.parts k no_part).arcs) (sym (starts_at c.parts n k few l)) w.start;
@@ -66,4 +48,4 @@ starts_known c h =
 pub back_more : (xs : List ℕ) (n : ℕ) → padded (back 0 xs (n + 1)) ≡ set (padded (back 0 xs n)) n (get_or xs n 0)
 back_more xs n =
     let s : suc n ≡ n + 1 = omega arith in
-    subst (λ j. padded (back 0 xs j) ≡ set (padded (back 0 xs n)) n (get_or xs n 0)) s (ap (λ i. set (padded (back 0 xs n)) i (get_or xs n 0)) (length-back 0 xs n))
+    subst (λ j. padded (back 0 xs j) ≡ set (padded (back 0 xs n)) n (get_or xs n 0)) s (ap (λ i. set (padded (back 0 xs n)) i (get_or xs n 0)) (length_back 0 xs n))

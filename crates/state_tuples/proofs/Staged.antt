@@ -10,17 +10,22 @@ use Rattle.weighted_relations.specs.declared.Arc.{Arc}
 use Rattle.weighted_relations.specs.Machines.{Machine, WellFormed}
 use Rattle.compose_filter.specs.declared.filters.Filter.{Filter}
 use Rattle.compose_filter.specs.declared.filters.Filter.TheVariants.{Open, Closed}
-use Rattle.compose_filter.proofs.Listed.{cond_some}
+use Rattle.compose_filter.specs.declared.filters.Taken.TheVariants.{Both, First, Second}
+use Rattle.fst_core.proofs.Among.{cond_some}
 use Rattle.state_tuples.specs.declared.tuples.Tuple.{Tuple}
 use Rattle.state_tuples.specs.declared.tuples.TupleArc.{TupleArc}
+use Rattle.state_tuples.specs.declared.joins.TuplePlace.{TuplePlace}
 use Rattle.state_tuples.specs.declared.joins.Asked.{Asked}
 use Rattle.state_tuples.specs.declared.joins.Asked.TheVariants.{Only}
-use Rattle.state_tuples.specs.Positions.{Position, back, bits, filters_of, filter_at, padded}
-use Rattle.state_tuples.specs.Expansions.{Step, both_step, first_step, second_step, together, with_part, alone, expansion}
+use Rattle.state_tuples.specs.Positions.{back, bits, filters_of, filter_at, padded}
+use Rattle.compose_filter.specs.declared.steps.Step.{Step}
+use Rattle.compose_filter.specs.Steps.{both_step, first_step, second_step, together}
+use Rattle.compose_filter.specs.Expansions.{Position, with_part, as_is, alone, expansion}
 use Rattle.state_tuples.specs.Cascades.{Cascaded, IsSound, no_part, tuple_arc, moves_of}
 use Rattle.state_tuples.specs.Stages.{asks, stage, row_of, alone_arc, joined, stayed, entered, entering, all_joined, all_entered}
-use Rattle.state_tuples.proofs.Lists.{map_cond, map_filter_map, passed_alike, passed_each, passed_kept, all_kept, all_flat}
-use Rattle.state_tuples.proofs.Padded.{length-back}
+use Rattle.compose_filter.proofs.Mapped.{map_cond, map_filter_map}
+use Rattle.state_tuples.proofs.Lists.{passed_alike, passed_each, passed_kept, all_kept, all_flat}
+use Rattle.state_tuples.proofs.Places.{length_back}
 use Rattle.state_tuples.proofs.Counted.{bits_open}
 
 -- a step of the first k + 1 parts
@@ -34,32 +39,32 @@ IsLight y = y.weight < 2 ^ 54
 pub light_row : (m : Machine) (q : ℕ) → WellFormed m → All IsLight (get_or m.arcs q [])
 light_row m q h = λ k d l. (h.arcs q k (get_or (get_or m.arcs q []) k d) (slice_get-get_or (get_or m.arcs q []) k d l)).weight
 
-both_fits : (k : ℕ) (l : Step Position) (y : Arc) (x : Step Position) → Fits k l → IsLight y → both_step with_part l y ≡ Some x → Fits (suc k) x
+both_fits : (k : ℕ) (l : Step Position) (y : Arc) (x : Step Position) → Fits k l → IsLight y → both_step as_is with_part as_is l y ≡ Some x → Fits (suc k) x
 both_fits k l y x h w e =
-    let r : Step Position = record { input = l.input; output = y.output; weight = l.weight + y.weight; next = with_part l.next y.next Open } in
+    let r : Step Position = record { input = l.input; output = y.output; weight = l.weight + y.weight; next = with_part l.next y.next Open Both } in
     let s = cond_some (not (l.output == 0) && (l.output == y.input)) r x e in
     subst (Fits (suc k)) s.1 (record { states = ap suc h.states; weight = (let v = h.weight in omega arith) })
 
-first_fits : (k q : ℕ) (f : Filter) (l x : Step Position) → Fits k l → first_step with_part q f l ≡ Some x → Fits (suc k) x
+first_fits : (k q : ℕ) (f : Filter) (l x : Step Position) → Fits k l → first_step as_is with_part as_is q f l ≡ Some x → Fits (suc k) x
 first_fits k q Open l x h e =
-    let r : Step Position = record { input = l.input; output = 0; weight = l.weight; next = with_part l.next q Open } in
+    let r : Step Position = record { input = l.input; output = 0; weight = l.weight; next = with_part l.next q Open First } in
     let s = cond_some (l.output == 0) r x e in
     subst (Fits (suc k)) s.1 (record { states = ap suc h.states; weight = (let v = h.weight in omega arith) })
 first_fits k q Closed l x h e = absurd (let n : None ≡ Some x = e in cc)
 
-second_fits : (k : ℕ) (at : Position) (y : Arc) (x : Step Position) → length at.states ≡ suc k → IsLight y → second_step with_part at y ≡ Some x → Fits (suc k) x
+second_fits : (k : ℕ) (at : Position) (y : Arc) (x : Step Position) → length at.states ≡ suc k → IsLight y → second_step as_is with_part as_is at y ≡ Some x → Fits (suc k) x
 second_fits k at y x h w e =
-    let r : Step Position = record { input = 0; output = y.output; weight = y.weight; next = with_part at y.next Closed } in
+    let r : Step Position = record { input = 0; output = y.output; weight = y.weight; next = with_part at y.next Closed Second } in
     let s = cond_some (y.input == 0) r x e in
     subst (Fits (suc k)) s.1 (record { states = ap suc h; weight = omega arith })
 
-fits_together : (k : ℕ) (left : List (Step Position)) (at : Position) (row : List Arc) (q : ℕ) (f : Filter) → All (Fits k) left → length at.states ≡ suc k → All IsLight row → All (Fits (suc k)) (together with_part left at row q f)
+fits_together : (k : ℕ) (left : List (Step Position)) (at : Position) (row : List Arc) (q : ℕ) (f : Filter) → All (Fits k) left → length at.states ≡ suc k → All IsLight row → All (Fits (suc k)) (together as_is with_part as_is left at row q f)
 fits_together k left at row q f h l w =
     All-append (Fits (suc k)) _ _
     (All-append (Fits (suc k)) _ _
-    (all_flat (Fits k) (Fits (suc k)) (λ l. filter_map (both_step with_part l) row) (λ s fs. all_kept IsLight (Fits (suc k)) (both_step with_part s) (λ y x v e. both_fits k s y x fs v e) row w) left h)
-    (all_kept (Fits k) (Fits (suc k)) (first_step with_part q f) (λ s x fs e. first_fits k q f s x fs e) left h))
-    (all_kept IsLight (Fits (suc k)) (second_step with_part at) (λ y x v e. second_fits k at y x l v e) row w)
+    (all_flat (Fits k) (Fits (suc k)) (λ l. filter_map (both_step as_is with_part as_is l) row) (λ s fs. all_kept IsLight (Fits (suc k)) (both_step as_is with_part as_is s) (λ y x v e. both_fits k s y x fs v e) row w) left h)
+    (all_kept (Fits k) (Fits (suc k)) (first_step as_is with_part as_is q f) (λ s x fs e. first_fits k q f s x fs e) left h))
+    (all_kept IsLight (Fits (suc k)) (second_step as_is with_part as_is at) (λ y x v e. second_fits k at y x l v e) row w)
 
 abbrev steps : Cascaded → Tuple → ℕ → List (Step Position)
 steps c t k = expansion (back no_part c.parts (suc k)) (back 0 t.states (suc k)) (filters_of t.filters k)
@@ -70,7 +75,7 @@ all_fit c t zero h l =
     All-map (Fits 0) alone row (All-weaker IsLight (λ y. Fits 0 (alone y)) (λ y w. record { states = refl; weight = omega arith }) row (light_row (get_or c.parts 0 no_part) (get_or t.states 0 0) (h.parts 0 no_part l)))
 all_fit c t (suc k) h l =
     fits_together k (steps c t k) (record { states = back 0 t.states (suc k); filters = filters_of t.filters k }) (row_of c t (suc k)) (get_or t.states (suc k) 0) (filter_at t.filters k)
-    (all_fit c t k h (omega arith)) (length-back 0 t.states (suc k)) (light_row (get_or c.parts (suc k) no_part) (get_or t.states (suc k) 0) (h.parts (suc k) no_part l))
+    (all_fit c t k h (omega arith)) (length_back 0 t.states (suc k)) (light_row (get_or c.parts (suc k) no_part) (get_or t.states (suc k) 0) (h.parts (suc k) no_part l))
 
 -- the moves of each stage are light
 pub stage_light : (c : Cascaded) (t : Tuple) (asked : Asked) (k : ℕ) → IsSound c → k < length c.parts → All (λ x. x.weight < suc k * 2 ^ 54) (stage c t asked k)
@@ -94,27 +99,27 @@ first_stage c t asked = each (row_of c t 0)
 
 -- what part k + 1 gives
 module _ (k : ℕ) (q : ℕ) where
-  joined_same : (l : Step Position) (y : Arc) → Fits k l → option_map tuple_arc (both_step with_part l y) ≡ joined (suc k) (tuple_arc l) y
+  joined_same : (l : Step Position) (y : Arc) → Fits k l → option_map tuple_arc (both_step as_is with_part as_is l y) ≡ joined (suc k) (tuple_arc l) y
   joined_same l y h =
       let test = not (l.output == 0) && (l.output == y.input) in
-      map_cond tuple_arc test (record { input = l.input; output = y.output; weight = l.weight + y.weight; next = with_part l.next y.next Open })
+      map_cond tuple_arc test (record { input = l.input; output = y.output; weight = l.weight + y.weight; next = with_part l.next y.next Open Both })
       ∙ (ap (λ (n : ℕ). cond test (Some (record { input = l.input; output = y.output; weight = l.weight + y.weight; filters = n; states = padded (y.next ∷ l.next.states) })) None) (bits_open l.next.filters)
       ∙ ap (λ (n : ℕ). cond test (Some (record { input = l.input; output = y.output; weight = l.weight + y.weight; filters = bits l.next.filters; states = set (padded l.next.states) n y.next })) None) h.states)
 
-  stayed_same : (f : Filter) (l : Step Position) → Fits k l → option_map tuple_arc (first_step with_part q f l) ≡ stayed (suc k) q f (tuple_arc l)
+  stayed_same : (f : Filter) (l : Step Position) → Fits k l → option_map tuple_arc (first_step as_is with_part as_is q f l) ≡ stayed (suc k) q f (tuple_arc l)
   stayed_same Open l h =
       let test = l.output == 0 in
-      map_cond tuple_arc test (record { input = l.input; output = 0; weight = l.weight; next = with_part l.next q Open })
+      map_cond tuple_arc test (record { input = l.input; output = 0; weight = l.weight; next = with_part l.next q Open First })
       ∙ (ap (λ (n : ℕ). cond test (Some (record { input = l.input; output = 0; weight = l.weight; filters = n; states = padded (q ∷ l.next.states) })) None) (bits_open l.next.filters)
       ∙ ap (λ (n : ℕ). cond test (Some (record { input = l.input; output = 0; weight = l.weight; filters = bits l.next.filters; states = set (padded l.next.states) n q })) None) h.states)
   stayed_same Closed l h = refl
 
-  entered_same : (t : Tuple) (y : Arc) → option_map tuple_arc (second_step with_part (record { states = back 0 t.states (suc k); filters = filters_of t.filters k }) y) ≡ entered (suc k) (entering t k) y
+  entered_same : (t : Tuple) (y : Arc) → option_map tuple_arc (second_step as_is with_part as_is (record { states = back 0 t.states (suc k); filters = filters_of t.filters k }) y) ≡ entered (suc k) (entering t k) y
   entered_same t y =
       let qs = back 0 t.states (suc k) in
       let fs = filters_of t.filters k in
-      map_cond tuple_arc (y.input == 0) (record { input = 0; output = y.output; weight = y.weight; next = with_part (record { states = qs; filters = fs }) y.next Closed })
-      ∙ ap (λ (n : ℕ). cond (y.input == 0) (Some (record { input = 0; output = y.output; weight = y.weight; filters = bits (Closed ∷ fs); states = set (padded qs) n y.next })) None) (length-back 0 t.states (suc k))
+      map_cond tuple_arc (y.input == 0) (record { input = 0; output = y.output; weight = y.weight; next = with_part (record { states = qs; filters = fs }) y.next Closed Second })
+      ∙ ap (λ (n : ℕ). cond (y.input == 0) (Some (record { input = 0; output = y.output; weight = y.weight; filters = bits (Closed ∷ fs); states = set (padded qs) n y.next })) None) (length_back 0 t.states (suc k))
 
 -- what a move reads
 joined_input : (place : ℕ) (x : TupleArc) (y : Arc) (z : TupleArc) → joined place x y ≡ Some z → z.input ≡ x.input
@@ -128,7 +133,7 @@ stayed_input place q Open x z e =
     ap (λ (a : TupleArc). a.input) (sym (cond_some (x.output == 0) r z e).1)
 stayed_input place q Closed x z e = absurd (let n : None ≡ Some z = e in cc)
 
-entered_input : (place : ℕ) (at : Tuple) (y : Arc) (z : TupleArc) → entered place at y ≡ Some z → z.input ≡ 0
+entered_input : (place : ℕ) (at : TuplePlace) (y : Arc) (z : TupleArc) → entered place at y ≡ Some z → z.input ≡ 0
 entered_input place at y z e =
     let r : TupleArc = record { input = 0; output = y.output; weight = y.weight; filters = at.filters; states = set at.states place y.next } in
     ap (λ (a : TupleArc). a.input) (sym (cond_some (y.input == 0) r z e).1)
@@ -146,16 +151,16 @@ next_stage c t asked k h l =
     let f = filter_at t.filters k in
     let p : TupleArc → Bool = λ a. asks asked a.input in
     let fit = all_fit c t k h (omega arith) in
-    let joints : filter p (map tuple_arc (flat_map (λ s. filter_map (both_step with_part s) row) left)) ≡ all_joined (suc k) (filter p (map tuple_arc left)) row
-    = passed_each (Fits k) p tuple_arc tuple_arc (λ s. filter_map (both_step with_part s) row) (λ x. filter_map (joined (suc k) x) row)
-    (λ s fs. ap (filter p) (map_filter_map tuple_arc (both_step with_part s) (joined (suc k) (tuple_arc s)) (λ y. joined_same k q s y fs) row) ∙ passed_alike p (joined (suc k) (tuple_arc s)) (p (tuple_arc s)) (λ y z e. ap (asks asked) (joined_input (suc k) (tuple_arc s) y z e)) row) left fit in
-    let firsts : filter p (map tuple_arc (filter_map (first_step with_part q f) left)) ≡ filter_map (stayed (suc k) q f) (filter p (map tuple_arc left))
-    = passed_kept (Fits k) p tuple_arc tuple_arc (first_step with_part q f) (stayed (suc k) q f) (λ s fs. stayed_same k q f s fs) (λ x z e. ap (asks asked) (stayed_input (suc k) q f x z e)) left fit in
-    let seconds : filter p (map tuple_arc (filter_map (second_step with_part at) row)) ≡ all_entered asked (suc k) (entering t k) row
-    = ap (filter p) (map_filter_map tuple_arc (second_step with_part at) (entered (suc k) (entering t k)) (entered_same k q t) row) ∙ passed_alike p (entered (suc k) (entering t k)) (asks asked 0) (λ y z e. ap (asks asked) (entered_input (suc k) (entering t k) y z e)) row in
-    split p tuple_arc (flat_map (λ s. filter_map (both_step with_part s) row) left) (filter_map (first_step with_part q f) left) (filter_map (second_step with_part at) row)
-    ∙ (ap (λ x. (x ++ filter p (map tuple_arc (filter_map (first_step with_part q f) left))) ++ filter p (map tuple_arc (filter_map (second_step with_part at) row))) joints
-    ∙ (ap (λ x. (all_joined (suc k) (filter p (map tuple_arc left)) row ++ x) ++ filter p (map tuple_arc (filter_map (second_step with_part at) row))) firsts
+    let joints : filter p (map tuple_arc (flat_map (λ s. filter_map (both_step as_is with_part as_is s) row) left)) ≡ all_joined (suc k) (filter p (map tuple_arc left)) row
+    = passed_each (Fits k) p tuple_arc tuple_arc (λ s. filter_map (both_step as_is with_part as_is s) row) (λ x. filter_map (joined (suc k) x) row)
+    (λ s fs. ap (filter p) (map_filter_map tuple_arc (both_step as_is with_part as_is s) (joined (suc k) (tuple_arc s)) (λ y. joined_same k q s y fs) row) ∙ passed_alike p (joined (suc k) (tuple_arc s)) (p (tuple_arc s)) (λ y z e. ap (asks asked) (joined_input (suc k) (tuple_arc s) y z e)) row) left fit in
+    let firsts : filter p (map tuple_arc (filter_map (first_step as_is with_part as_is q f) left)) ≡ filter_map (stayed (suc k) q f) (filter p (map tuple_arc left))
+    = passed_kept (Fits k) p tuple_arc tuple_arc (first_step as_is with_part as_is q f) (stayed (suc k) q f) (λ s fs. stayed_same k q f s fs) (λ x z e. ap (asks asked) (stayed_input (suc k) q f x z e)) left fit in
+    let seconds : filter p (map tuple_arc (filter_map (second_step as_is with_part as_is at) row)) ≡ all_entered asked (suc k) (entering t k) row
+    = ap (filter p) (map_filter_map tuple_arc (second_step as_is with_part as_is at) (entered (suc k) (entering t k)) (entered_same k q t) row) ∙ passed_alike p (entered (suc k) (entering t k)) (asks asked 0) (λ y z e. ap (asks asked) (entered_input (suc k) (entering t k) y z e)) row in
+    split p tuple_arc (flat_map (λ s. filter_map (both_step as_is with_part as_is s) row) left) (filter_map (first_step as_is with_part as_is q f) left) (filter_map (second_step as_is with_part as_is at) row)
+    ∙ (ap (λ x. (x ++ filter p (map tuple_arc (filter_map (first_step as_is with_part as_is q f) left))) ++ filter p (map tuple_arc (filter_map (second_step as_is with_part as_is at) row))) joints
+    ∙ (ap (λ x. (all_joined (suc k) (filter p (map tuple_arc left)) row ++ x) ++ filter p (map tuple_arc (filter_map (second_step as_is with_part as_is at) row))) firsts
     ∙ ap (λ x. (all_joined (suc k) (filter p (map tuple_arc left)) row ++ filter_map (stayed (suc k) q f) (filter p (map tuple_arc left))) ++ x) seconds))
 
 -- an arc that isn't asked for

@@ -11,10 +11,12 @@ use Rattle.compose_filter.specs.Compositions.{both_final}
 use Rattle.compose_filter.proofs.Numbering.{finals_of}
 use Rattle.state_tuples.specs.declared.tuples.Tuple.{Tuple}
 use Rattle.state_tuples.specs.declared.tuples.TupleArc.{TupleArc}
-use Rattle.state_tuples.specs.Positions.{Position, back, bits, filters_of, padded}
-use Rattle.state_tuples.specs.Expansions.{Step, expansion, finality}
+use Rattle.state_tuples.specs.Positions.{back, bits, filters_of, padded}
+use Rattle.compose_filter.specs.declared.steps.Step.{Step}
+use Rattle.compose_filter.specs.Expansions.{Position, expansion, finality}
 use Rattle.state_tuples.specs.Cascades.{Cascaded, IsSound, backwards, position_of, first_tuple, next_of, tuple_arc, tuple_graph, ReadsItsParts, no_part}
-use Rattle.state_tuples.proofs.StepMoves.{Lengths, shorter, move_lengths, step_moves, moves_step, from_map, to_map}
+use Rattle.compose_filter.proofs.Named.{step_moves, moves_step, from_map, to_map}
+use Rattle.state_tuples.proofs.Lengths.{Lengths, shorter, move_lengths}
 use Rattle.state_tuples.proofs.Places.{states_again, filters_again, length_back}
 use Rattle.state_tuples.proofs.ClosedTuples.{position_lengths, starts_lengths, open_bits}
 use Rattle.state_tuples.proofs.PartReadings.{ComposedReads, composed_is_cascade}
@@ -47,7 +49,7 @@ module _ (c : Cascaded) (sound : IsSound c) where
       let a : length qs ≡ length c.parts = l.states ∙ n in
       let b : length fs ≡ length c.parts - 1 = omega arith in
       let states : back 0 (padded qs) (length c.parts) ≡ qs = subst (λ k. back 0 (padded qs) k ≡ qs) a (states_again qs (omega arith)) in
-      let filters : filters_of (bits fs) (length c.parts - 1) ≡ fs = subst (λ k. filters_of (bits fs) k ≡ fs) b (filters_again fs (omega arith)) in
+      let filters : filters_of (bits fs) (length c.parts - 1) ≡ fs = subst (λ k. filters_of (bits fs) k ≡ fs) b (filters_again fs) in
       rw (states, filters)
 
   -- the composed paths from a position

@@ -1,5 +1,5 @@
 -- What the calls of an expander are owed and answer.
-use Rattle.std.specs.Prelude.{◌≡◌, ◌<◌, ℕ, ◌+◌, ◌-◌, ◌^◌, List, Option, Some, None, slice_get, Contains, if◌then◌else◌, ◌==◌}
+use Rattle.std.specs.Prelude.{◌≡◌, ℕ, ◌+◌, ◌-◌, ◌^◌, List, Option, Some, None, slice_get, Contains, if◌then◌else◌, ◌==◌}
 use Rattle.state_tuples.specs.declared.tuples.Tuple.{Tuple}
 use Rattle.state_tuples.specs.declared.tuples.TupleArc.{TupleArc}
 use Rattle.state_tuples.specs.Cascades.{Cascaded, IsOf, end_of}

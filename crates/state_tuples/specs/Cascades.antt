@@ -1,13 +1,14 @@
 -- Cascades as contracts see them, their tuples, and the graph of these.
-use Rattle.std.specs.Prelude.{◌≡◌, ◌<◌, ◌≤◌, ℕ, ◌-◌, ◌^◌, List, [], map, get_or, length, Option, All, Contains}
-use Rattle.weighted_relations.specs.Relations.{Relation, Cascade, Same}
+use Rattle.std.specs.Prelude.{◌≡◌, ◌<◌, ◌≤◌, ℕ, ◌-◌, ◌^◌, List, [], map, get_or, length, Option, All}
+use Rattle.weighted_relations.specs.Relations.{Cascade, Same}
 use Rattle.weighted_relations.specs.Graphs.{Graph, GraphReads}
 use Rattle.weighted_relations.specs.Machines.{Machine, WellFormed, Reads}
 use Rattle.compose_filter.specs.ComposedPaths.{starts}
 use Rattle.state_tuples.specs.declared.tuples.Tuple.{Tuple}
 use Rattle.state_tuples.specs.declared.tuples.TupleArc.{TupleArc}
-use Rattle.state_tuples.specs.Positions.{Position, back, bits, filters_of, padded}
-use Rattle.state_tuples.specs.Expansions.{Step, expansion, finality}
+use Rattle.state_tuples.specs.Positions.{back, bits, filters_of, most_parts, padded}
+use Rattle.compose_filter.specs.declared.steps.Step.{Step}
+use Rattle.compose_filter.specs.Expansions.{Position, expansion, finality}
 
 -- a number, and the parts from the first to the last
 pub record Cascaded : Type 0 where
@@ -17,7 +18,7 @@ pub record Cascaded : Type 0 where
 -- what holds of each cascade
 pub record IsSound (c : Cascaded) : Type 0 where
   pub some : 0 < length c.parts
-  pub few : length c.parts ≤ 4
+  pub few : length c.parts ≤ most_parts
   pub parts : All WellFormed c.parts
 
 abbrev pub no_part : Machine
@@ -30,7 +31,7 @@ backwards c = back no_part c.parts (length c.parts)
 -- The number agrees, the states are in range, those past the last part are 0, and there is a filter for each part but the first.
 pub record IsOf (c : Cascaded) (t : Tuple) : Type 0 where
   pub number : t.cascade ≡ c.number
-  pub width : length t.states ≡ 4
+  pub width : length t.states ≡ most_parts
   pub states : (k : ℕ) → k < length c.parts → get_or t.states k 0 < length (get_or c.parts k no_part).arcs
   pub past : (k : ℕ) → length c.parts ≤ k → get_or t.states k 0 ≡ 0
   pub filters : t.filters < 2 ^ (length c.parts - 1)

@@ -1,6 +1,6 @@
 -- What a cascade keeps beside its parts.
 use Rattle.std.specs.Prelude.{Bool, IsTrue, All}
-use Rattle.compose_filter.specs.Sorted.{HasSortedRows}
+use Rattle.fst_core.specs.Sorted.{HasSortedRows}
 use Rattle.state_tuples.specs.Cascades.{Cascaded, IsSound}
 
 -- it is sound, and where this is said, the arcs of each state of each part are in the order of their inputs

@@ -2,7 +2,6 @@ pub mod Positions
 pub mod Cascades
 pub mod Kept
 pub mod Stages
-pub mod Expansions
 pub mod Orders
 pub mod Calls
 pub mod Bounds

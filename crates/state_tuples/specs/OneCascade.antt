@@ -1,5 +1,5 @@
 -- Why the laws of expanders hold of one cascade.
-use Rattle.std.specs.Prelude.{◌≡◌, ◌<◌, ℕ, zero, suc, List, [], ◌∷◌, Some, None, slice_get, length, All}
+use Rattle.std.specs.Prelude.{◌≡◌, ◌<◌, zero, suc, [], ◌∷◌, All}
 use Rattle.std.proofs.Common.{refl, ◌∙◌, ap, arith}
 use Rattle.state_tuples.specs.Cascades.{Cascaded, IsSound}
 use Rattle.state_tuples.specs.Calls.{HaveOwnNumbers}

@@ -1,12 +1,7 @@
--- Where a cascade is: a state of each part and a filter before each part but the first.
--- In lists, parts, states and filters stand from the last part to the first.
+-- Positions of a cascade as tuples. In lists, parts, states and filters stand from the last part to the first.
 use Rattle.std.specs.Prelude.{ℕ, zero, suc, ◌+◌, ◌*◌, ◌^◌, ◌/◌, ◌%◌, ◌==◌, List, [], ◌∷◌, set, get_or, length, if◌then◌else◌}
 use Rattle.compose_filter.specs.declared.filters.Filter.{Filter}
 use Rattle.compose_filter.specs.declared.filters.Filter.TheVariants.{Open, Closed}
-
-pub record Position : Type 0 where
-  pub states : List ℕ
-  pub filters : List Filter
 
 -- the first k of a list, from the last to the first
 abbrev pub back : {X : Type 0} → X → List X → ℕ → List X
@@ -31,7 +26,15 @@ abbrev pub filters_of : ℕ → ℕ → List Filter
 filters_of n zero = []
 filters_of n (suc k) = filter_at n k ∷ filters_of n k
 
+-- the greatest number of parts
+abbrev pub most_parts : ℕ
+most_parts = 4
+
+abbrev pub zeros : ℕ → List ℕ
+zeros zero = []
+zeros (suc n) = 0 ∷ zeros n
+
 -- the states from the first part to the last, with zeros after them
 abbrev pub padded : List ℕ → List ℕ
-padded [] = 0 ∷ 0 ∷ 0 ∷ 0 ∷ []
+padded [] = zeros most_parts
 padded (q ∷ qs) = set (padded qs) (length qs) q

@@ -2,17 +2,16 @@
 
 ghost use Rattle.std.specs.Prelude.{◌≡◌, ◌<◌, ◌≤◌, All, IsTrue, get_or, length, []};
 ghost use Rattle.compose_filter.specs.ComposedPaths.{starts};
-ghost use Rattle.std.specs.List.Sorted.{IsNonDecreasingBy};
-ghost use Rattle.compose_filter.specs.Sorted.{HasSortedRows};
+ghost use Rattle.fst_core.specs.Sorted.{HasSortedRows};
 ghost use Rattle.weighted_relations.specs.Machines.{WellFormed, final_of};
-ghost use Rattle.state_tuples.specs.Positions.{back, padded};
+ghost use Rattle.state_tuples.specs.Positions.{back, most_parts, padded};
 ghost use Rattle.state_tuples.specs.Cascades.{IsOf, IsSound, first_tuple, no_part};
 
-use crate::tuples::Tuple;
+use crate::tuples::{MOST_PARTS, States, Tuple};
 use fst_core::{Arc, Fst};
 use std::marker::Model;
 
-/// One to four transducers, each of which reads what the one before it writes, with a number that tells the cascade from others.
+/// One to [`MOST_PARTS`](crate::MOST_PARTS) transducers, each of which reads what the one before it writes, with a number that tells the cascade from others.
 ///
 /// It keeps whether the arcs of each state of each part stand in the order of their inputs. Where they do, those that read a label
 /// are found by a search.
@@ -38,7 +37,7 @@ impl Cascade {
     /// The cascade of these parts, from the first to the last.
     pub fn new(number: u32, parts: Vec<Fst>) -> Cascade
         requires some { 0 < length parts.items }
-        requires few { length parts.items ≤ 4 }
+        requires few { length parts.items ≤ most_parts }
         ensures value { result ≡ record { number = number; parts = parts.items } }
     {
         let is_sorted = all_sorted(&parts);
@@ -111,36 +110,18 @@ fn all_sorted(parts: &[Fst]) -> bool
 {
     let mut sorted = true;
     for part in parts {
-        sorted = rows_sorted(part) && sorted;
+        let _start = part.start();
+        sorted = part.is_sorted() && sorted;
     }
     sorted
 }
 
-fn rows_sorted(part: &Fst) -> bool
-    ensures sound { WellFormed part.now }
-    ensures sorted { IsTrue result → HasSortedRows part.now }
-{
-    let _start = part.start();
-    for s in 0..part.len() {
-        if !row_sorted(part.arcs_of(s)) {
-            return false;
-        }
-    }
-    true
-}
-
-fn row_sorted(row: &[Arc]) -> bool
-    ensures { IsTrue result → IsNonDecreasingBy (λ y. y.input) row.now }
-{
-    row.is_sorted_by(|y, z| y.input <= z.input)
-}
-
 /// Where the parts start, with zeros after them.
-fn starts_of(parts: &[Fst]) -> [usize; 4]
-    requires few { length parts.now ≤ 4 }
+fn starts_of(parts: &[Fst]) -> States
+    requires few { length parts.now ≤ most_parts }
     ensures { result ≡ padded (starts (back no_part parts.now (length parts.now))) }
 {
-    let mut states = [0; 4];
+    let mut states = [0; MOST_PARTS];
     for k in 0..parts.len() {
         states[k] = parts[k].start();
     }

@@ -1,13 +1,13 @@
 // How one part more joins the moves of the parts before it.
 
-ghost use Rattle.std.specs.Prelude.{◌≡◌, ◌==◌, ◌+◌, ◌<◌, ◌≤◌, ◌^◌, ◌++◌, All, IsTrue, OnOk, length};
+ghost use Rattle.std.specs.Prelude.{◌≡◌, ◌==◌, ◌+◌, ◌<◌, ◌≤◌, ◌^◌, ◌++◌, IsTrue, OnOk, length};
 ghost use Rattle.std.specs.List.{filter_map};
 ghost use Rattle.std.specs.List.Sorted.{IsNonDecreasingBy};
-ghost use Rattle.state_tuples.specs.Positions.{filter_at};
-ghost use Rattle.state_tuples.specs.Stages.{AreReaders, all_entered, all_joined, alone_arc, asks, entered, entering, joined, stayed};
+ghost use Rattle.state_tuples.specs.Positions.{filter_at, most_parts};
+ghost use Rattle.state_tuples.specs.Stages.{all_entered, alone_arc, asks, entering};
 
-use crate::tuples::{Tuple, TupleArc};
-use compose_filter::{Filter, reading};
+use crate::tuples::{MOST_PARTS, States, Tuple, TupleArc};
+use compose_filter::{Filter, Joining, Step, Taken, add_second};
 use fst_core::Arc;
 use std::alloc::AllocError;
 
@@ -16,6 +16,13 @@ use std::alloc::AllocError;
 pub enum Asked {
     Every,
     Only(u16),
+}
+
+/// A state of each part, 0 past the last one, and the filters, as a tuple has them.
+#[derive(Clone, Copy)]
+pub struct TuplePlace {
+    pub states: States,
+    pub filters: u32,
 }
 
 /// Whether a move that reads this label is asked for.
@@ -30,19 +37,15 @@ fn is_asked(asked: Asked, input: u16) -> bool
 
 /// What a closed filter counts: 1 after the first part, and after each next one twice as much.
 fn closed_value(k: usize) -> u32
-    requires { k < 3 }
+    requires { k + 1 < most_parts }
     ensures { result ≡ 2 ^ k }
 {
-    match k {
-        0 => 1,
-        1 => 2,
-        _ => 4,
-    }
+    1 << k
 }
 
 /// The filter after the first `k + 1` parts.
 pub(crate) fn filter_of(filters: u32, k: usize) -> Filter
-    requires { k < 3 }
+    requires { k + 1 < most_parts }
     ensures { result ≡ filter_at filters k }
 {
     if filters / closed_value(k) % 2 == 0 {
@@ -53,29 +56,17 @@ pub(crate) fn filter_of(filters: u32, k: usize) -> Filter
 }
 
 /// Where the first `k + 1` parts are, with the filter after them closed.
-fn entering_at(t: &Tuple, k: usize) -> Tuple
-    requires few { k < 3 }
+fn entering_at(t: &Tuple, k: usize) -> TuplePlace
+    requires few { k + 1 < most_parts }
     ensures { result ≡ entering t.now k }
 {
-    let mut states = [0; 4];
+    let mut states = [0; MOST_PARTS];
     for i in 0..k + 1 {
         states[i] = t.states[i];
     }
     let value = closed_value(k);
     let filters = t.filters % value + value;
-    Tuple {
-        cascade: t.cascade,
-        states,
-        filters,
-    }
-}
-
-/// Arcs of the row among which are all that read the label: these alone, where the row is in order.
-pub(crate) fn readers(row: &[Arc], label: u16, sorted: bool) -> &[Arc]
-    requires sorted { IsTrue sorted → IsNonDecreasingBy (λ y. y.input) row.now }
-    ensures { AreReaders label row.now result.now }
-{
-    if sorted { reading(row, label) } else { row }
+    TuplePlace { states, filters }
 }
 
 /// The moves of the first part.
@@ -100,7 +91,8 @@ fn one_alone(y: &Arc, asked: Asked) -> Option<TupleArc>
     if !is_asked(asked, y.input) {
         return None;
     }
-    let states = [y.next, 0, 0, 0];
+    let mut states = [0; MOST_PARTS];
+    states[0] = y.next;
     Some(TupleArc {
         input: y.input,
         output: y.output,
@@ -110,101 +102,69 @@ fn one_alone(y: &Arc, asked: Asked) -> Option<TupleArc>
     })
 }
 
-/// Both move.
-pub(crate) fn add_joined(
-    all: &mut Vec<TupleArc>,
-    before: &[TupleArc],
-    row: &[Arc],
-    sorted: bool,
-    place: usize,
-) -> Result<(), AllocError>
-    requires place { place < 4 }
-    requires sorted { IsTrue sorted → IsNonDecreasingBy (λ y. y.input) row.now }
-    requires light { All (λ x. x.weight < 2 ^ 63) before.now }
-    requires light_row { All (λ y. y.weight < 2 ^ 63) row.now }
-    ensures { OnOk result (all.new.items ≡ all.old.items ++ all_joined place before.now row.now) }
-{
-    for x in before {
-        if x.output != 0 {
-            add_readers(all, x, readers(row, x.output, sorted), place)?;
+/// How a part joins the moves of those before it. Parts are counted from 0.
+#[derive(Drop)]
+pub(crate) struct PartJoining {
+    pub part: usize,
+}
+
+impl Joining for PartJoining {
+    ghost use Rattle.std.specs.Prelude.{◌≡◌, ◌<◌};
+    ghost use Rattle.state_tuples.specs.Positions.{most_parts};
+    ghost use Rattle.state_tuples.specs.Stages.{arc_of, arc_step, put_state};
+
+    type Left = TupleArc;
+
+    type Place = TuplePlace;
+
+    type Next = TuplePlace;
+
+    type Joined = TupleArc;
+
+    ghost step = { arc_step };
+
+    ghost pair = { λ j. put_state j.part };
+
+    ghost made = { arc_of };
+
+    ghost is_ready = { λ j. j.part < most_parts };
+
+    fn step(&self, x: &TupleArc) -> Step<TuplePlace> {
+        Step {
+            input: x.input,
+            output: x.output,
+            weight: x.weight,
+            next: TuplePlace {
+                states: x.states,
+                filters: x.filters,
+            },
         }
     }
-    Ok(())
-}
 
-/// Both move, those before by this arc.
-fn add_readers(
-    all: &mut Vec<TupleArc>,
-    x: &TupleArc,
-    row: &[Arc],
-    place: usize,
-) -> Result<(), AllocError>
-    requires place { place < 4 }
-    requires light { x.now.weight < 2 ^ 63 }
-    requires light_row { All (λ y. y.weight < 2 ^ 63) row.now }
-    ensures { OnOk result (all.new.items ≡ all.old.items ++ filter_map (joined place x.now) row.now) }
-{
-    for y in row {
-        if let Some(m) = one_joined(x, y, place) {
-            all.push(m)?;
+    fn pair(&self, left: &TuplePlace, q: usize, _filter: Filter, _taken: Taken) -> TuplePlace {
+        let mut states = left.states;
+        states[self.part] = q;
+        TuplePlace {
+            states,
+            filters: left.filters,
         }
     }
-    Ok(())
-}
 
-fn one_joined(x: &TupleArc, y: &Arc, place: usize) -> Option<TupleArc>
-    requires place { place < 4 }
-    requires fits { x.now.weight + y.now.weight < 2 ^ 64 }
-    ensures { result ≡ joined place x.now y.now }
-{
-    if x.output == 0 || x.output != y.input {
-        return None;
-    }
-    let mut states = x.states;
-    states[place] = y.next;
-    Some(TupleArc {
-        input: x.input,
-        output: y.output,
-        weight: x.weight + y.weight,
-        filters: x.filters,
-        states,
-    })
-}
-
-/// Those before move alone, and the part at the place stays in the state `q`, where the filter is open.
-pub(crate) fn add_stayed(
-    all: &mut Vec<TupleArc>,
-    before: &[TupleArc],
-    place: usize,
-    q: usize,
-    filter: Filter,
-) -> Result<(), AllocError>
-    requires place { place < 4 }
-    ensures { OnOk result (all.new.items ≡ all.old.items ++ filter_map (stayed place q filter) before.now) }
-{
-    for x in before {
-        if let Some(m) = one_stayed(x, place, q, filter) {
-            all.push(m)?;
+    fn made(&self, s: Step<TuplePlace>) -> TupleArc
+        ensures { result ≡ arc_of s }
+    {
+        let TuplePlace { states, filters } = s.next;
+        TupleArc {
+            input: s.input,
+            output: s.output,
+            weight: s.weight,
+            filters,
+            states,
         }
     }
-    Ok(())
 }
 
-fn one_stayed(x: &TupleArc, place: usize, q: usize, filter: Filter) -> Option<TupleArc>
-    requires place { place < 4 }
-    ensures { result ≡ stayed place q filter x.now }
-{
-    match filter {
-        Filter::Open if x.output == 0 => {
-            let mut states = x.states;
-            states[place] = q;
-            Some(TupleArc { states, ..*x })
-        }
-        _ => None,
-    }
-}
-
-/// The part at the place moves alone, where what reads nothing is asked for.
+/// Part `k + 1` moves alone, where what reads nothing is asked for.
 pub(crate) fn add_entered(
     all: &mut Vec<TupleArc>,
     row: &[Arc],
@@ -213,36 +173,13 @@ pub(crate) fn add_entered(
     k: usize,
     asked: Asked,
 ) -> Result<(), AllocError>
-    requires few { k < 3 }
+    requires few { k + 1 < most_parts }
     requires sorted { IsTrue sorted → IsNonDecreasingBy (λ y. y.input) row.now }
     ensures { OnOk result (all.new.items ≡ all.old.items ++ all_entered asked (k + 1) (entering t.now k) row.now) }
 {
-    if !is_asked(asked, 0) {
-        return Ok(());
-    }
-    let at = entering_at(t, k);
-    for y in readers(row, 0, sorted) {
-        if let Some(m) = one_entered(y, k + 1, &at) {
-            all.push(m)?;
-        }
+    if is_asked(asked, 0) {
+        let at = entering_at(t, k);
+        add_second(all, &PartJoining { part: k + 1 }, &at, row, sorted)?;
     }
     Ok(())
-}
-
-fn one_entered(y: &Arc, place: usize, at: &Tuple) -> Option<TupleArc>
-    requires place { place < 4 }
-    ensures { result ≡ entered place at.now y.now }
-{
-    if y.input != 0 {
-        return None;
-    }
-    let mut states = at.states;
-    states[place] = y.next;
-    Some(TupleArc {
-        input: 0,
-        output: y.output,
-        weight: y.weight,
-        filters: at.filters,
-        states,
-    })
 }

@@ -1,12 +1,11 @@
 //! Cascades of transducers that are composed only where a search goes.
 //!
-//! A [`Cascade`] is up to four transducers, each of which reads what the one before it writes. Its states are tuples: a state of
+//! A [`Cascade`] is up to [`MOST_PARTS`] transducers, each of which reads what the one before it writes. Its states are tuples: a state of
 //! each part, and a filter before each part but the first (`compose_filter` says how two move together). [`Cascade::expand`] gives
 //! all moves from a tuple in order. What a search asks for is the trait [`Expander`]: the moves that read one label, and the final
 //! weight. [`Private`] answers it anew at each call, without the other moves, and keeps only the memory for them.
 //!
-//! The definitions lie in `specs/`: `Cascades` (cascades, tuples, and the graph of these), `Expansions` (the list of moves),
-//! `Positions` (tuples as lists), `Orders` (the order of arcs), `Calls` (what an expander answers) and `Bounds`. The others are of
+//! The definitions lie in `specs/`: `Cascades` (cascades, tuples, and the graph of these), `Positions` (tuples as lists), `Orders` (the order of arcs), `Calls` (what an expander answers) and `Bounds`. The others are of
 //! the crate's own parts: `Stages` says how the moves of one part more come of those of the parts before it.
 //!
 //! A call that fails, fails for want of memory alone. Where the arcs of each state of the parts stand in the order of their inputs,
@@ -19,6 +18,7 @@ mod expanding;
 mod joins;
 mod laws;
 mod privates;
+mod sharing;
 mod stages;
 mod tuples;
 
@@ -26,7 +26,4 @@ pub use cascades::Cascade;
 pub use expanders::Expander;
 pub use laws::cascades_read_their_parts;
 pub use privates::Private;
-pub use tuples::{Expansion, Tuple, TupleArc};
-
-#[cfg(test)]
-mod tests;
+pub use tuples::{Expansion, MOST_PARTS, States, Tuple, TupleArc};

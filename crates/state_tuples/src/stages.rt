@@ -9,8 +9,9 @@ ghost use Rattle.state_tuples.specs.Orders.{Ordered};
 ghost use Rattle.state_tuples.specs.Stages.{alone_arc, asks, stage};
 
 use crate::cascades::Cascade;
-use crate::joins::{Asked, add_alone, add_entered, add_joined, add_stayed, filter_of, readers};
+use crate::joins::{Asked, PartJoining, add_alone, add_entered, filter_of};
 use crate::tuples::{Tuple, TupleArc};
+use compose_filter::{add_both, add_first, label_readers};
 use fst_core::Arc;
 use std::alloc::AllocError;
 use std::mem::swap;
@@ -63,7 +64,7 @@ fn asked_of(row: &[Arc], asked: Asked, sorted: bool) -> &[Arc]
 {
     match asked {
         Asked::Every => row,
-        Asked::Only(label) => readers(row, label, sorted),
+        Asked::Only(label) => label_readers(row, label, sorted),
     }
 }
 
@@ -86,8 +87,9 @@ fn next_part(
     let q = t.states[k + 1];
     let row = cascade.row(k + 1, q);
     let sorted = cascade.is_sorted();
-    add_joined(all, before, row, sorted, k + 1)?;
-    add_stayed(all, before, k + 1, q, filter_of(t.filters, k))?;
+    let joining = PartJoining { part: k + 1 };
+    add_both(all, &joining, before, row, sorted)?;
+    add_first(all, &joining, before, q, filter_of(t.filters, k))?;
     add_entered(all, row, sorted, t, k, asked)?;
     Ok(())
 }

@@ -1,4 +1,5 @@
-use Rattle.std.proofs.Common.{◌↔◌, ◌≤◌, ◌<◌, ℕ, List, [], ◌∷◌, length, inl, inr, arith, subst, sym, ap, ◌∙◌}
+use Rattle.std.proofs.lemmas.Option.{get_or_from_slice_get}
+use Rattle.std.proofs.Common.{◌≡◌, get_or, ◌↔◌, ◌≤◌, ◌<◌, ℕ, List, [], ◌∷◌, length, inl, inr, arith, subst, sym, ap, ◌∙◌}
 use Rattle.std.specs.Prelude.{IsTrue}
 use Rattle.std.specs.List.{Contains}
 use Rattle.weighted_relations.specs.Relations.{IsInput}
@@ -6,7 +7,7 @@ use Rattle.weighted_relations.specs.Machines.{Reads}
 use Rattle.fst_core.specs.Reach.{Found}
 use Rattle.acceptor_ops.specs.Tables.{Table, Accepts, IsTotal}
 use Rattle.acceptor_ops.specs.StateSets.{KernelOf, AnyFinal}
-use Rattle.acceptor_ops.specs.Numbered.{Numbers}
+use Rattle.state_table.specs.Numbers.{Numbers}
 use Rattle.acceptor_ops.proofs.Inputs.{none_in_nil, cons_cases}
 use Rattle.acceptor_ops.proofs.Determined.{building_none, building_more, total, accepts}
 use Rattle.acceptor_ops.proofs.determines.determinise.Goals as goal
@@ -24,16 +25,17 @@ pub loop-alloc-init : goal.loop-alloc-init
 loop-alloc-init c = record {
   size = c.in_ok-kernel.ensures.size ∙ ap (λ (f : Found). f.size) c.in_ok-search.ensures.value ∙ c.len.ensures.count;
   built =
-      building_none c.args.a.now c.in_ok-classes.classes c.in_ok-start.start c.number.new.self c.in_ok-kernel.field-0.items c.new-rows.result
-      (subst (λ s. KernelOf c.args.a.now (s ∷ []) c.in_ok-kernel.field-0.items) c.start.ensures.value c.in_ok-kernel.ensures.kernel)
-      (subst (λ v. Numbers [] v c.number.new.self c.in_ok-kernel.field-0.items c.in_ok-start.start) c.new-sets.ensures.value c.in_ok-start.ensures.value)
+      building_none c.args.a.now c.in_ok-classes.classes c.in_ok-start.start c.number.new.self c.in_ok-kernel.field-0 c.new-rows.result
+      (subst (λ s. KernelOf c.args.a.now (s ∷ []) c.in_ok-kernel.field-0) c.start.ensures.value c.in_ok-kernel.ensures.kernel)
+      (subst (λ v. Numbers v c.number.new.self c.in_ok-kernel.field-0 c.in_ok-start.start) c.new-sets.ensures.value c.in_ok-start.ensures.number)
       c.new-rows.ensures.value;
 }
 
 pub any_final-last-requires : goal.any_final-last-requires
 any_final-last-requires c =
     let l : c.len-k.result < length c.loop-alloc.sets = omega arith in
-    record { within = subst (λ (v : List ℕ). (s : ℕ) → Contains v s → s < length c.args.a.now.arcs) (sym c.get.ensures.value) (c.loop-alloc.invariant.built.kernels c.len-k.result l).states }
+    let at : c.states.result.now ≡ get_or c.loop-alloc.sets c.len-k.result [] = c.states.ensures.value ∙ sym {A = List ℕ} (get_or_from_slice_get c.loop-alloc.sets c.len-k.result c.key.result.now [] c.key.ensures.value) in
+    record { within = subst (λ (v : List ℕ). (s : ℕ) → Contains v s → s < length c.args.a.now.arcs) (sym at) (c.loop-alloc.invariant.built.kernels c.len-k.result l).states }
 
 pub row_of-requires : goal.row_of-requires
 row_of-requires c = record {
@@ -47,12 +49,13 @@ row_of-requires c = record {
 pub loop-alloc-preserved : goal.loop-alloc-preserved
 loop-alloc-preserved c =
     let l : c.len-k.result < length c.loop-alloc.sets = omega arith in
+    let at : c.states.result.now ≡ get_or c.loop-alloc.sets c.len-k.result [] = c.states.ensures.value ∙ sym {A = List ℕ} (get_or_from_slice_get c.loop-alloc.sets c.len-k.result c.key.result.now [] c.key.ensures.value) in
     record {
       size = c.in_ok-row.ensures.size ∙ c.loop-alloc.invariant.size;
       built =
           building_more c.args.a.now c.in_ok-classes.classes c.in_ok-start.start c.len-k.result c.loop-alloc.sets c.row_of.new.sets c.loop-alloc.rows c.push.new.self c.in_ok-row.row.items c.any_final-last.result
           c.loop-alloc.invariant.built c.len-k.ensures.count l
-          (subst (λ v. IsTrue c.any_final-last.result ↔ AnyFinal c.args.a.now v) c.get.ensures.value c.any_final-last.ensures.found)
+          (subst (λ v. IsTrue c.any_final-last.result ↔ AnyFinal c.args.a.now v) at c.any_final-last.ensures.found)
           c.in_ok-row.ensures.row c.in_ok-push.ensures.value;
     }
 

@@ -4,6 +4,7 @@ use Rattle.std.specs.List.{Contains}
 use Rattle.std.proofs.lemmas.List.Elements.{Contains-get_or}
 use Rattle.fst_core.specs.declared.search.Follow.TheVariants.{EmptyInput}
 use Rattle.fst_core.specs.Reach.{Found, LedTo}
+use Rattle.acceptor_ops.specs.StateSets.{KernelOf}
 use Rattle.acceptor_ops.proofs.Inputs.{kernel_of}
 use Rattle.acceptor_ops.proofs.Filling.{added_none, added_more, added_all}
 use Rattle.acceptor_ops.proofs.kernels.kernel.Goals as goal
@@ -39,6 +40,6 @@ returns-clause-kernel c =
       λ q. subst (λ v. Contains v t) (sym there) ((c.in_ok-run.ensures.found t).1 (record { seed = q.seed; is = (same q.seed).1 q.is; leads = q.leads })),
     )
     in
-    kernel_of c.args.a.now c.args.seeds.now c.found.result.now c.in_ok-found.found.items led
+    subst (KernelOf c.args.a.now c.args.seeds.now) (sym c.new.ensures.value) (kernel_of c.args.a.now c.args.seeds.now c.found.result.now c.in_ok-found.found.items led
     (within c.found.result.now (length c.args.a.now.arcs) (subst (λ n. All (λ s. s < n) c.found.result.now) (c.in_ok-run.ensures.size ∙ c.loop-s.invariant.size) c.found.ensures.within))
-    c.in_ok-found.ensures.active
+    c.in_ok-found.ensures.active)

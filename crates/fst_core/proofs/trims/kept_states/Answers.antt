@@ -1,12 +1,14 @@
 use Rattle.std.proofs.Common.{◌≡◌, ◌+◌, ◌<◌, [], ℕ, length, get_or, ap, sym, subst, ◌∙◌, arith}
+use Rattle.std.specs.List.{filter_map}
 use Rattle.weighted_relations.specs.declared.Arc.{Arc}
 use Rattle.weighted_relations.specs.Machines.{final_of, IsArc, ArcFits}
 use Rattle.fst_core.specs.States.{with_state}
-use Rattle.fst_core.specs.Useful.{rank, RowKept, KeptTo, KeptStates}
+use Rattle.fst_core.specs.Useful.{rank, to_kept, KeptTo, KeptStates}
 use Rattle.fst_core.specs.Top.{top_of, Under}
 use Rattle.fst_core.proofs.Tops.{kept_under, built_top}
 use Rattle.fst_core.proofs.Fits.{Fit}
-use Rattle.fst_core.proofs.Uses.{states_more, states_other, kept_fits, rank_below}
+use Rattle.fst_core.proofs.Uses.{states_more, states_other, kept_fits}
+use Rattle.fst_core.proofs.Ranks.{rank_below}
 use Rattle.fst_core.proofs.Searches.{get_or_any}
 use Rattle.fst_core.proofs.trims.kept_states.Goals as goal
 use Rattle.fst_core.proofs.trims.kept_states.Goals.{then-keep-s+in_ok-row+in_ok-push, else-keep-s}
@@ -14,7 +16,7 @@ use Rattle.fst_core.proofs.trims.kept_states.Goals.{then-keep-s+in_ok-row+in_ok-
 pub loop-s-preserved : goal.loop-s-preserved
 loop-s-preserved c = elim c.if-keep-s.branch [
   | then-keep-s+in_ok-row+in_ok-push w ↦
-      let row : RowKept c.args.keep.now (length (get_or c.args.a.now.arcs c.loop-s.s [])) (get_or c.args.a.now.arcs c.loop-s.s []) w.in_ok-row.row.items = subst (λ r. RowKept c.args.keep.now (length r) r w.in_ok-row.row.items) w.arcs_of.ensures.value w.in_ok-row.ensures in
+      let row : w.in_ok-row.row.items ≡ filter_map (to_kept c.args.keep.now) (get_or c.args.a.now.arcs c.loop-s.s []) = w.in_ok-row.ensures ∙ ap (filter_map (to_kept c.args.keep.now)) w.arcs_of.ensures.value in
       let pushed : c.if-keep-s.built ≡ with_state c.loop-s.built w.in_ok-row.row.items (final_of c.args.a.now.finals c.loop-s.s) = w.built-is ∙ w.in_ok-push.ensures.value ∙ ap (with_state c.loop-s.built w.in_ok-row.row.items) w.final_of.ensures.value in
       record {
         kept = states_more c.args.a.now c.args.keep.now c.loop-s.s c.loop-s.built c.if-keep-s.built w.in_ok-row.row.items c.loop-s.invariant.kept w.if-keep-s.true row pushed;

@@ -73,8 +73,8 @@ build_each-returns-in_err-build-clause-refused t c =
 pub build-returns-in_ok-minus-in-Minus-clause-readings : goal.build-returns-in_ok-minus-in-Minus-clause-readings
 build-returns-in_ok-minus-in-Minus-clause-readings t c = minus_reads c.args.e.now c.in-Minus.a c.in-Minus.b c.deref-in-Minus.result.now c.deref-in-Minus-2.result.now c.in_ok-all-in-Minus.all c.in_ok-others-in-Minus.others c.in_ok-minus-in-Minus.field-0 c.in_ok-determinise-in-Minus.field-0 c.in-Minus.is c.deref-in-Minus.ensures c.deref-in-Minus-2.ensures c.requires.kinds c.in_ok-all-in-Minus.ensures.readings c.in_ok-others-in-Minus.ensures.readings c.in_ok-determinise-in-Minus.ensures.strings c.in_ok-minus-in-Minus.ensures.readings
 
-pub build-returns-in_ok-compose-in-Compose-clause-readings : goal.build-returns-in_ok-compose-in-Compose-clause-readings
-build-returns-in_ok-compose-in-Compose-clause-readings t c = compose_reads c.args.e.now c.in-Compose.a c.in-Compose.b c.deref-in-Compose.result.now c.deref-in-Compose-2.result.now c.in_ok-first-in-Compose.first c.in_ok-second-in-Compose.second c.in_ok-compose-in-Compose.field-0 c.in-Compose.is c.deref-in-Compose.ensures c.deref-in-Compose-2.ensures c.in_ok-first-in-Compose.ensures.readings c.in_ok-second-in-Compose.ensures.readings c.in_ok-compose-in-Compose.ensures.readings
+pub build-returns-in_ok-composed-in-Compose-clause-readings : goal.build-returns-in_ok-composed-in-Compose-clause-readings
+build-returns-in_ok-composed-in-Compose-clause-readings t c = compose_reads c.args.e.now c.in-Compose.a c.in-Compose.b c.deref-in-Compose.result.now c.deref-in-Compose-2.result.now c.in_ok-first-in-Compose.first c.in_ok-second-in-Compose.second c.in_ok-composed-in-Compose.field-0 c.in-Compose.is c.deref-in-Compose.ensures c.deref-in-Compose-2.ensures c.in_ok-first-in-Compose.ensures.readings c.in_ok-second-in-Compose.ensures.readings c.in_ok-composed-in-Compose.ensures.readings
 
 pub build_rewrite-rewrite-requires-clause-left : goal.build_rewrite-rewrite-requires-clause-left
 build_rewrite-rewrite-requires-clause-left t c = left_accepts c.args.r.now c.requires.kinds c.in_ok-left.left c.in_ok-left.ensures.readings

@@ -8,6 +8,7 @@ use Rattle.least_path.specs.Starting.{IsLeastFrom}
 use Rattle.least_path.specs.Growths.{Steps}
 use Rattle.least_path.specs.Keeps.{Grown, GrownFrom, IsEdge}
 use Rattle.least_path.proofs.Stops.{stops_later}
+use Rattle.least_path.proofs.Turns.{taken_within, taken_at}
 use Rattle.least_path.proofs.Wholes.{all_start, all_none, all_found, all_bytes, all_known_tuple, all_known_state, all_count, all_light, all_short, all_more, all_smaller}
 use Rattle.least_path.proofs.searching.least.Goals as goal
 
@@ -27,30 +28,33 @@ loop-entry-init g c =
 pub returns-clause-least : goal.returns-clause-least
 returns-clause-least g c = all_none c.args.source.now (g.X.Expander.cascades c.args.x.now) c.args.start.now (g.met.X.Expander.sound c.args.x.now c.requires.ready) c.loop-entry.invariant.sound c.cascades_read_their_parts.ensures c.loop-entry.search c.loop-entry.invariant.runs c.in_default.ensures
 
+pub key-requires : goal.key-requires
+key-requires g c = record { within = taken_within c.loop-entry.search c.next.new.self c.in-Some.entry c.in-Some.ensures }
+
 pub bytes_of-requires : goal.bytes_of-requires
 bytes_of-requires g c =
     let e = c.in-Some.entry in
-    let at : get_or c.loop-entry.search.nodes c.in-Some.entry.node End ≡ End = ap (λ ns. get_or ns c.in-Some.entry.node End) (sym c.in-Some.ensures.nodes) ∙ sym c.in-End.ensures in
+    let at : get_or c.loop-entry.search.nodes c.in-Some.entry.node End ≡ End = taken_at c.loop-entry.search c.next.new.self c.in-Some.entry c.in-Some.ensures End (c.key.ensures.value ∙ ap Some c.in-End.is) in
     let bytes = all_bytes c.args.source.now (g.X.Expander.cascades c.args.x.now) c.args.start.now (g.met.X.Expander.sound c.args.x.now c.requires.ready) c.loop-entry.invariant.sound c.cascades_read_their_parts.ensures c.loop-entry.search c.loop-entry.invariant.runs c.next.new.self e c.in-Some.ensures c.requires.start c.requires.bytes at in
     let text : text_of c.loop-entry.search.outputs c.in-Some.entry.output ≡ c.deref.result.now = ap (λ t. text_of t c.in-Some.entry.output) (sym c.in-Some.ensures.outputs) ∙ sym c.in_ok-labels-in-End.ensures ∙ sym c.deref.ensures.value in
     subst (All (λ n. n < 256)) text bytes
 
 pub returns-in-End-clause-least : goal.returns-in-End-clause-least
 returns-in-End-clause-least g c =
-    let at : get_or c.loop-entry.search.nodes c.in-Some.entry.node End ≡ End = ap (λ ns. get_or ns c.in-Some.entry.node End) (sym c.in-Some.ensures.nodes) ∙ sym c.in-End.ensures in
+    let at : get_or c.loop-entry.search.nodes c.in-Some.entry.node End ≡ End = taken_at c.loop-entry.search c.next.new.self c.in-Some.entry c.in-Some.ensures End (c.key.ensures.value ∙ ap Some c.in-End.is) in
     let found = all_found c.args.source.now (g.X.Expander.cascades c.args.x.now) c.args.start.now (g.met.X.Expander.sound c.args.x.now c.requires.ready) c.loop-entry.invariant.sound c.cascades_read_their_parts.ensures c.loop-entry.search c.loop-entry.invariant.runs c.next.new.self c.in-Some.entry c.in-Some.ensures at in
     let text : c.in_ok-bytes_of-in-End.field-0.items ≡ text_of c.loop-entry.search.outputs c.in-Some.entry.output = c.in_ok-bytes_of-in-End.ensures ∙ c.deref.ensures.value ∙ c.in_ok-labels-in-End.ensures ∙ ap (λ t. text_of t c.in-Some.entry.output) c.in-Some.ensures.outputs in
     subst (λ y. IsLeastFrom c.args.source.now (g.X.Expander.cascades c.args.x.now) c.args.start.now (Some (c.in-Some.entry.weight, y))) (sym text) found
 
 pub expand-requires-clause-known : goal.expand-requires-clause-known
 expand-requires-clause-known g c =
-    let at : get_or c.loop-entry.search.nodes c.in-Some.entry.node End ≡ At c.in-At.state c.in-At.tuple = ap (λ ns. get_or ns c.in-Some.entry.node End) (sym c.in-Some.ensures.nodes) ∙ sym c.in-At.ensures in
+    let at : get_or c.loop-entry.search.nodes c.in-Some.entry.node End ≡ At c.in-At.state c.in-At.tuple = taken_at c.loop-entry.search c.next.new.self c.in-Some.entry c.in-Some.ensures (At c.in-At.state c.in-At.tuple) (c.key.ensures.value ∙ ap Some c.in-At.is) in
     let k : IsKnown (g.X.Expander.cascades c.args.x.now) c.in-At.tuple = all_known_tuple c.args.source.now (g.X.Expander.cascades c.args.x.now) c.args.start.now (g.met.X.Expander.sound c.args.x.now c.requires.ready) c.loop-entry.invariant.sound c.cascades_read_their_parts.ensures c.loop-entry.search c.loop-entry.invariant.runs c.next.new.self c.in-Some.entry c.in-Some.ensures c.requires.start c.in-At.state c.in-At.tuple at in
     subst (λ cs. IsKnown cs c.in-At.tuple) (sym (g.met.X.Expander.on_stays c.args.x.now c.loop-entry.x c.loop-entry.invariant.on)) k
 
 pub expand-requires-clause-state : goal.expand-requires-clause-state
 expand-requires-clause-state g c =
-    let at : get_or c.loop-entry.search.nodes c.in-Some.entry.node End ≡ At c.in-At.state c.in-At.tuple = ap (λ ns. get_or ns c.in-Some.entry.node End) (sym c.in-Some.ensures.nodes) ∙ sym c.in-At.ensures in
+    let at : get_or c.loop-entry.search.nodes c.in-Some.entry.node End ≡ At c.in-At.state c.in-At.tuple = taken_at c.loop-entry.search c.next.new.self c.in-Some.entry c.in-Some.ensures (At c.in-At.state c.in-At.tuple) (c.key.ensures.value ∙ ap Some c.in-At.is) in
     all_known_state c.args.source.now (g.X.Expander.cascades c.args.x.now) c.args.start.now (g.met.X.Expander.sound c.args.x.now c.requires.ready) c.loop-entry.invariant.sound c.cascades_read_their_parts.ensures c.loop-entry.search c.loop-entry.invariant.runs c.next.new.self c.in-Some.entry c.in-Some.ensures c.requires.start c.in-At.state c.in-At.tuple at
 
 pub expand-requires-clause-light : goal.expand-requires-clause-light
@@ -71,14 +75,14 @@ expand-requires-clause-short g c =
 
 pub loop-entry-smaller : goal.loop-entry-smaller
 loop-entry-smaller g c =
-    let at : get_or c.loop-entry.search.nodes c.in-Some.entry.node End ≡ At c.in-At.state c.in-At.tuple = ap (λ ns. get_or ns c.in-Some.entry.node End) (sym c.in-Some.ensures.nodes) ∙ sym c.in-At.ensures in
+    let at : get_or c.loop-entry.search.nodes c.in-Some.entry.node End ≡ At c.in-At.state c.in-At.tuple = taken_at c.loop-entry.search c.next.new.self c.in-Some.entry c.in-Some.ensures (At c.in-At.state c.in-At.tuple) (c.key.ensures.value ∙ ap Some c.in-At.is) in
     let same = g.met.X.Expander.on_stays c.args.x.now c.loop-entry.x c.loop-entry.invariant.on in
     let grown : GrownFrom (g.X.Expander.cascades c.args.x.now) c.in-At.tuple c.next.new.self c.expand.new.search c.in-Some.entry (λ d. Steps c.args.source.now d (At c.in-At.state c.in-At.tuple)) = subst (λ cs. GrownFrom cs c.in-At.tuple c.next.new.self c.expand.new.search c.in-Some.entry (λ d. Steps c.args.source.now d (At c.in-At.state c.in-At.tuple))) same c.in_ok-expand-in-At.ensures.grown in
     all_smaller c.args.source.now (g.X.Expander.cascades c.args.x.now) c.args.start.now (g.met.X.Expander.sound c.args.x.now c.requires.ready) c.loop-entry.invariant.sound c.cascades_read_their_parts.ensures c.loop-entry.search c.loop-entry.invariant.runs c.next.new.self c.in-Some.entry c.in-Some.ensures c.in-At.state c.in-At.tuple at c.expand.new.search grown c.requires.start
 
 pub loop-entry-preserved : goal.loop-entry-preserved
 loop-entry-preserved g c =
-    let at : get_or c.loop-entry.search.nodes c.in-Some.entry.node End ≡ At c.in-At.state c.in-At.tuple = ap (λ ns. get_or ns c.in-Some.entry.node End) (sym c.in-Some.ensures.nodes) ∙ sym c.in-At.ensures in
+    let at : get_or c.loop-entry.search.nodes c.in-Some.entry.node End ≡ At c.in-At.state c.in-At.tuple = taken_at c.loop-entry.search c.next.new.self c.in-Some.entry c.in-Some.ensures (At c.in-At.state c.in-At.tuple) (c.key.ensures.value ∙ ap Some c.in-At.is) in
     let same = g.met.X.Expander.on_stays c.args.x.now c.loop-entry.x c.loop-entry.invariant.on in
     let grown : GrownFrom (g.X.Expander.cascades c.args.x.now) c.in-At.tuple c.next.new.self c.expand.new.search c.in-Some.entry (λ d. Steps c.args.source.now d (At c.in-At.state c.in-At.tuple)) = subst (λ cs. GrownFrom cs c.in-At.tuple c.next.new.self c.expand.new.search c.in-Some.entry (λ d. Steps c.args.source.now d (At c.in-At.state c.in-At.tuple))) same c.in_ok-expand-in-At.ensures.grown in
     record {

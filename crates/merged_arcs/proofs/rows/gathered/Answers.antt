@@ -17,6 +17,7 @@ returns c =
     let all = arcs_all c.args.a.now c.args.set.now c.loop-s.s-index c.loop-s.arcs.items (omega arith) c.loop-s.invariant in
     let order = c.put_in_order.ensures.order in
     record {
+      together = c.put_in_order.ensures.together;
       all = λ y. (
         λ h. (all y).0 (Contains-permutation c.put_in_order.new.arcs.items c.loop-s.arcs.items y (IsPermutation-sym c.loop-s.arcs.items c.put_in_order.new.arcs.items order) h),
         λ h. Contains-permutation c.loop-s.arcs.items c.put_in_order.new.arcs.items y order ((all y).1 h),

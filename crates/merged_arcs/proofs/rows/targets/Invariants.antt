@@ -1,4 +1,4 @@
-use Rattle.merged_arcs.proofs.Merging.{TargetsTo}
+use Rattle.merged_arcs.proofs.Runs.{TargetsTo}
 use Rattle.merged_arcs.proofs.rows.targets.Given as goal
 
 abbrev pub invariant-loop-i : goal.invariant-loop-i

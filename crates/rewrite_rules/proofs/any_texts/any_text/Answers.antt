@@ -1,9 +1,9 @@
-use Rattle.std.proofs.Common.{◌≡◌, Some, subst, sym, ap, ◌∙◌}
+use Rattle.std.proofs.Common.{Some, subst, sym, ap, ◌∙◌}
 use Rattle.weighted_relations.specs.Relations.{Same}
 use Rattle.weighted_relations.specs.Machines.{WellFormed, Reads}
-use Rattle.fst_core.specs.States.{States, with_state, as_machine, no_states}
+use Rattle.fst_core.specs.States.{with_state, as_machine}
 use Rattle.rewrite_rules.specs.AnyTexts.{AnyText}
-use Rattle.rewrite_rules.proofs.AnyReadings.{one_state, any_whole, any_reads}
+use Rattle.rewrite_rules.proofs.AnyReadings.{any_whole, any_reads}
 use Rattle.rewrite_rules.proofs.any_texts.any_text.Goals as goal
 
 pub finish-requires : goal.finish-requires

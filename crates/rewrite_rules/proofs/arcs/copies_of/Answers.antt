@@ -1,14 +1,11 @@
-use Rattle.std.proofs.Common.{◌≡◌, ◌<◌, ◌≤◌, ℕ, Some, [], length, get_or, arith, subst, sym, ap, ◌∙◌}
-use Rattle.std.specs.Prelude.{slice_get}
+use Rattle.std.proofs.Common.{◌≡◌, ◌<◌, ◌≤◌, ℕ, [], length, get_or, arith, subst, sym, ap, ◌∙◌}
 use Rattle.std.proofs.lemmas.Option.{slice_get-get_or}
 use Rattle.acceptor_ops.specs.Tables.{step_of}
 use Rattle.rewrite_rules.specs.Classes.{first}
-use Rattle.rewrite_rules.specs.Befores.{before_at}
 use Rattle.rewrite_rules.specs.Steps.{Listed, CopyTo, copied_to}
 use Rattle.rewrite_rules.specs.Drawn.{Draws}
 use Rattle.rewrite_rules.specs.declared.arcs.Step.{Step}
 use Rattle.rewrite_rules.specs.declared.spots.Gap.TheVariants.{Open}
-use Rattle.rewrite_rules.specs.declared.spots.Spot.{Spot}
 use Rattle.rewrite_rules.specs.declared.spots.Spot.TheVariants.{Outside}
 use Rattle.rewrite_rules.proofs.Drawing.{listed_none, listed_more}
 use Rattle.rewrite_rules.proofs.Grouping.{first_byte}

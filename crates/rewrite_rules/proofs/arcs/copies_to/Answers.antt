@@ -8,5 +8,5 @@ pub returns : goal.returns
 returns c = record {
   drawn =
       subst (Draws (CopyTo c.args.bytes.now c.args.to) c.args.spots.now c.number.new.self c.args.row.now.items) (sym c.in_ok-copy_arcs.ensures.arcs)
-      (draws_copies c.args.spots.now c.number.new.self c.args.row.now.items c.args.bytes.now c.args.to c.in_ok-next.next c.in_ok-next.ensures.value c.requires.some);
+      (draws_copies c.args.spots.now c.number.new.self c.args.row.now.items c.args.bytes.now c.args.to c.in_ok-next.next c.in_ok-next.ensures.number c.requires.some);
 }

@@ -7,5 +7,5 @@ pub returns : goal.returns
 returns c = record {
   drawn =
       subst (Draws (λ x. x ≡ c.args.step) c.args.spots.now c.number.new.self c.args.row.now.items) (sym c.in_ok-push.ensures.items)
-      (draws_one c.args.spots.now c.number.new.self c.args.row.now.items c.args.step c.in_ok-next.next c.in_ok-next.ensures.value);
+      (draws_one c.args.spots.now c.number.new.self c.args.row.now.items c.args.step c.in_ok-next.next c.in_ok-next.ensures.number);
 }

@@ -1,4 +1,4 @@
-use Rattle.std.proofs.Common.{◌≡◌, ◌+◌, length, arith, subst}
+use Rattle.std.proofs.Common.{◌≡◌, length, arith, subst}
 use Rattle.rewrite_rules.specs.PartsOf.{parts}
 use Rattle.rewrite_rules.specs.Steps.{Guess, IsMove, empty_step}
 use Rattle.rewrite_rules.specs.Drawn.{Draws}

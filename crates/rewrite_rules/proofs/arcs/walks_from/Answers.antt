@@ -1,6 +1,5 @@
 use Rattle.std.proofs.Common.{◌≡◌, ◌<◌, ℕ, length, get_or, arith, subst, ap, ◌∙◌}
 use Rattle.std.proofs.lemmas.Option.{slice_get-get_or}
-use Rattle.acceptor_ops.specs.Tables.{step_of}
 use Rattle.rewrite_rules.specs.Moves.{moved}
 use Rattle.rewrite_rules.specs.PartsOf.{parts}
 use Rattle.rewrite_rules.specs.Steps.{WalkFrom, walk_step}

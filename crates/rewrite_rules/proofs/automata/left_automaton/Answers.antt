@@ -1,6 +1,6 @@
-use Rattle.std.proofs.Common.{◌≡◌, ◌∷◌, ◌++◌, [], List, subst, ap, ◌∙◌}
+use Rattle.std.proofs.Common.{◌≡◌, ◌∷◌, ◌++◌, [], subst, ap, ◌∙◌}
 use Rattle.weighted_relations.specs.Relations.{Same, AllOf}
-use Rattle.weighted_relations.specs.Machines.{Machine, Reads}
+use Rattle.weighted_relations.specs.Machines.{Reads}
 use Rattle.acceptor_ops.specs.Tables.{Accepts}
 use Rattle.rewrite_rules.proofs.Accepting.{left_texts}
 use Rattle.rewrite_rules.proofs.automata.left_automaton.Goals as goal

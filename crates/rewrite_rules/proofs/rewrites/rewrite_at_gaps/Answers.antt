@@ -1,4 +1,4 @@
-use Rattle.std.proofs.Common.{subst, ap}
+use Rattle.std.proofs.Common.{subst}
 use Rattle.weighted_relations.specs.Relations.{Same}
 use Rattle.weighted_relations.specs.RelationLaws.{same_trans}
 use Rattle.weighted_relations.specs.Machines.{Reads}

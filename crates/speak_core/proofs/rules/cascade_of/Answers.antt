@@ -1,7 +1,8 @@
-use Rattle.std.proofs.Common.{◌≡◌, ◌≤◌, ◌∙◌, Bor, Ok, List, length, map, All, ap, subst, sym, arith}
+use Rattle.std.proofs.Common.{◌≡◌, ◌≤◌, ◌∙◌, Bor, Ok, List, length, map, All, ap, subst, sym, ℕ}
 use Rattle.std.proofs.lemmas.List.{length-map}
 use Rattle.core_expressions.specs.Views.{expression_of}
 use Rattle.core_expressions.specs.declared.expressions.Expr.{Expr as Tree}
+use Rattle.speak_setup.specs.Setups.{most_rules}
 use Rattle.state_tuples.specs.Cascades.{Cascaded}
 use Rattle.thrax_link.specs.Exports.{exports_of}
 use Rattle.speak_core.specs.Loaded.{CanBeBuilt}
@@ -20,8 +21,7 @@ pub new-requires-clause-few : goal.new-requires-clause-few
 new-requires-clause-few c =
     let are = c.in-Ok.ensures.found ∙ ap (λ (rules : List (Bor Tree)). Ok (map (λ e. expression_of e.now) rules)) (sym c.deref.ensures.value) in
     let n = built_count c.args.file.now c.args.names.now (exports_of c.args.grammar.now) (map (λ e. expression_of e.now) c.deref.result.now) are c.in-Ok-build_all.parts.items c.in-Ok-build_all.ensures.built in
-    let few : length c.args.names.now ≤ 4 = c.requires.few in
-    omega (arith, n, few)
+    subst (λ (k : ℕ). k ≤ most_rules) (sym n) c.requires.few
 
 pub returns-in-Ok-build_all-clause-finds : goal.returns-in-Ok-build_all-clause-finds
 returns-in-Ok-build_all-clause-finds c =

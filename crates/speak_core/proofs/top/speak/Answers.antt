@@ -1,7 +1,25 @@
 use Rattle.std.proofs.Common.{inl, inr, refl, true, false}
+use Rattle.speak_core.specs.Devices.{Observed, SinkSeen, seen, sink_seen}
 use Rattle.speak_core.specs.declared.stop.Stop.TheVariants.{Words, Outside, TooLong}
-use Rattle.speak_core.proofs.Endings.{refusal_end, told_words, stopped_at, end_at, at_most_six, finished, all_read_at, some_refused_at, is_refusal, refused_end, long_end, outside_rose, none_rose, at_end, speaks_at, complete_end, told_refusal, told_stop, told_short}
+use Rattle.speak_core.proofs.Endings.{refusal_end, told_words, stopped_at, end_at, at_most_six, finished, all_read_at, some_refused_at, is_refusal, refused_end, long_end, outside_rose, none_rose, at_end, speaks_at, then_err, Known, complete_end, told_refusal, told_stop, told_short}
+use Rattle.speak_core.proofs.top.speak.Given as given
 use Rattle.speak_core.proofs.top.speak.Goals as goal
+
+-- what the run saw of its devices
+abbrev ran : (g : given.Over) → goal.After-finish g → Observed
+ran g c = seen g.H.Shelf g.S.Source g.O.Sink g.E.Sink c.args.shelf.now c.args.source.now c.args.out.now c.args.err.now c.run.new.shelf c.run.new.source c.run.new.out c.run.new.err
+
+-- and the errors, after all was told
+abbrev last : (g : given.Over) → goal.After-finish g → SinkSeen
+last g c = sink_seen g.E.Sink c.finish.new.err
+
+known : (g : given.Over) → (c : goal.After-finish g) → Known c.args.words.now (g.H.Shelf.files c.args.shelf.now) (g.S.Source.left c.args.source.now) (then_err (ran g c) (last g c)) c.run.result
+known g c = record {
+  wrong = c.run.ensures.words.0;
+  refusals = c.run.ensures.refused;
+  rises = outside_rose (ran g c) (last g c) c.run.result c.run.ensures.counts c.finish.ensures.later;
+  long = c.run.ensures.too_long;
+}
 
 pub returns-clause-range : goal.returns-clause-range
 returns-clause-range g c = at_most_six c.run.result c.finish.result c.finish.ensures.status
@@ -16,12 +34,11 @@ pub returns-clause-refused : goal.returns-clause-refused
 returns-clause-refused g c = λ h. refusal_end c.args.words.now (g.H.Shelf.files c.args.shelf.now) c.run.result c.finish.result c.finish.ensures.status h c.run.ensures.refused
 
 pub returns-clause-only_refused : goal.returns-clause-only_refused
-returns-clause-only_refused g c = refused_end c.args.words.now (g.H.Shelf.files c.args.shelf.now) c.run.result c.finish.result c.finish.ensures.status c.run.ensures.words.0 c.run.ensures.only_refused
+returns-clause-only_refused g c = refused_end c.args.words.now (g.H.Shelf.files c.args.shelf.now) _ c.run.result c.finish.result c.finish.ensures.status c.run.ensures.words.0 c.run.ensures.only_refused c.run.ensures.only_shelf
 
 pub returns-clause-outside : goal.returns-clause-outside
 returns-clause-outside g c = λ h.
-    outside_rose (g.H.Shelf.faults c.args.shelf.now) (g.H.Shelf.faults c.run.new.shelf) (g.S.Source.faults c.args.source.now) (g.S.Source.faults c.run.new.source) (g.O.Sink.faults c.args.out.now) (g.O.Sink.faults c.run.new.out) (g.E.Sink.faults c.args.err.now) (g.E.Sink.faults c.run.new.err) (g.E.Sink.faults c.finish.new.err) c.run.result
-    c.run.ensures.counts c.finish.ensures.later (stopped_at c.run.result Outside c.finish.result c.finish.ensures.status h refl refl)
+    outside_rose (ran g c) (last g c) c.run.result c.run.ensures.counts c.finish.ensures.later (stopped_at c.run.result Outside c.finish.result c.finish.ensures.status h refl refl)
 
 pub returns-clause-too_long : goal.returns-clause-too_long
 returns-clause-too_long g c = λ h. c.run.ensures.too_long (stopped_at c.run.result TooLong c.finish.result c.finish.ensures.status h refl refl)
@@ -31,18 +48,15 @@ returns-clause-only_too_long g c = long_end (g.S.Source.left c.args.source.now) 
 
 pub returns-clause-quiet : goal.returns-clause-quiet
 returns-clause-quiet g c = λ h.
-    none_rose (g.H.Shelf.faults c.args.shelf.now) (g.H.Shelf.faults c.run.new.shelf) (g.S.Source.faults c.args.source.now) (g.S.Source.faults c.run.new.source) (g.O.Sink.faults c.args.out.now) (g.O.Sink.faults c.run.new.out) (g.E.Sink.faults c.args.err.now) (g.E.Sink.faults c.run.new.err) (g.E.Sink.faults c.finish.new.err) c.run.result
-    c.run.ensures.counts (finished c.run.result c.finish.result c.finish.ensures.status h) c.finish.ensures.kept_count
+    none_rose (ran g c) (last g c) c.run.result c.run.ensures.counts (finished c.run.result c.finish.result c.finish.ensures.status h) c.finish.ensures.kept_count
 
 pub returns-clause-read : goal.returns-clause-read
 returns-clause-read g c = λ h.
-    speaks_at c.args.words.now (g.H.Shelf.files c.args.shelf.now) (g.S.Source.left c.args.source.now) (g.O.Sink.held c.args.out.now) (g.O.Sink.held c.run.new.out) (g.E.Sink.held c.args.err.now) (g.E.Sink.held c.run.new.err) (g.E.Sink.held c.finish.new.err) c.run.result true
-    (all_read_at c.run.result c.finish.result c.finish.ensures.status h) c.run.ensures.done c.finish.ensures.kept
+    speaks_at c.args.words.now (ran g c) (last g c) c.run.result true (all_read_at c.run.result c.finish.result c.finish.ensures.status h) c.run.ensures.done c.finish.ensures.kept
 
 pub returns-clause-some_refused : goal.returns-clause-some_refused
 returns-clause-some_refused g c = λ h.
-    speaks_at c.args.words.now (g.H.Shelf.files c.args.shelf.now) (g.S.Source.left c.args.source.now) (g.O.Sink.held c.args.out.now) (g.O.Sink.held c.run.new.out) (g.E.Sink.held c.args.err.now) (g.E.Sink.held c.run.new.err) (g.E.Sink.held c.finish.new.err) c.run.result false
-    (some_refused_at c.run.result c.finish.result c.finish.ensures.status h) c.run.ensures.done c.finish.ensures.kept
+    speaks_at c.args.words.now (ran g c) (last g c) c.run.result false (some_refused_at c.run.result c.finish.result c.finish.ensures.status h) c.run.ensures.done c.finish.ensures.kept
 
 pub returns-clause-end : goal.returns-clause-end
 returns-clause-end g c = λ h. at_end (g.S.Source.left c.run.new.source) c.run.result c.run.ensures.end (finished c.run.result c.finish.result c.finish.ensures.status h)
@@ -55,43 +69,34 @@ returns-clause-silent g c = λ h. c.run.ensures.silent_out (is_refusal c.run.res
 
 pub returns-clause-complete : goal.returns-clause-complete
 returns-clause-complete g c =
-    complete_end c.args.words.now (g.H.Shelf.files c.args.shelf.now) (g.S.Source.left c.args.source.now) (g.S.Source.left c.run.new.source) _ c.run.result c.finish.result c.finish.ensures.status
-    (record {
-      wrong = c.run.ensures.words.0;
-      refusals = c.run.ensures.refused;
-      rises = outside_rose (g.H.Shelf.faults c.args.shelf.now) (g.H.Shelf.faults c.run.new.shelf) (g.S.Source.faults c.args.source.now) (g.S.Source.faults c.run.new.source) (g.O.Sink.faults c.args.out.now) (g.O.Sink.faults c.run.new.out) (g.E.Sink.faults c.args.err.now) (g.E.Sink.faults c.run.new.err) (g.E.Sink.faults c.finish.new.err) c.run.result c.run.ensures.counts c.finish.ensures.later;
-      long = c.run.ensures.too_long;
-    })
+    complete_end c.args.words.now (g.H.Shelf.files c.args.shelf.now) (g.S.Source.left c.args.source.now) (then_err (ran g c) (last g c)) c.run.result c.finish.result c.finish.ensures.status
+    (known g c)
 
 pub returns-clause-told_words : goal.returns-clause-told_words
 returns-clause-told_words g c = λ h.
-    told_words c.run.result c.finish.result (g.E.Sink.faults c.args.err.now) (g.E.Sink.faults c.run.new.err) (g.E.Sink.faults c.finish.new.err) (g.E.Sink.held c.args.err.now) (g.E.Sink.held c.run.new.err) (g.E.Sink.held c.finish.new.err)
+    told_words c.run.result c.finish.result (ran g c).before.err (ran g c).after.err (last g c)
     c.finish.ensures.status c.finish.ensures.told h c.run.ensures.later (c.run.ensures.silent_err (is_refusal c.run.result c.finish.result c.finish.ensures.status (inl h)))
 
 pub returns-clause-told_refused : goal.returns-clause-told_refused
 returns-clause-told_refused g c = λ h.
-    told_refusal c.args.words.now (g.H.Shelf.files c.args.shelf.now) c.run.result c.finish.result (g.E.Sink.faults c.args.err.now) (g.E.Sink.faults c.run.new.err) (g.E.Sink.faults c.finish.new.err) (g.E.Sink.held c.args.err.now) (g.E.Sink.held c.run.new.err) (g.E.Sink.held c.finish.new.err)
+    told_refusal c.args.words.now (g.H.Shelf.files c.args.shelf.now) c.run.result c.finish.result (ran g c).before.err (ran g c).after.err (last g c)
     c.finish.ensures.status c.finish.ensures.told h c.run.ensures.later (c.run.ensures.silent_err (is_refusal c.run.result c.finish.result c.finish.ensures.status (inr h))) c.run.ensures.refused
 
 pub returns-clause-told_outside : goal.returns-clause-told_outside
 returns-clause-told_outside g c = λ h.
-    told_stop c.args.words.now (g.H.Shelf.files c.args.shelf.now) (g.S.Source.left c.args.source.now) c.run.result Outside c.finish.result (g.E.Sink.faults c.args.err.now) (g.E.Sink.faults c.run.new.err) (g.E.Sink.faults c.finish.new.err) (g.E.Sink.held c.args.err.now) (g.E.Sink.held c.run.new.err) (g.E.Sink.held c.finish.new.err)
+    told_stop c.args.words.now (g.H.Shelf.files c.args.shelf.now) (g.S.Source.left c.args.source.now) c.run.result Outside c.finish.result (ran g c).before.err (ran g c).after.err (last g c)
     c.finish.ensures.status c.finish.ensures.told h refl refl c.run.ensures.later c.run.ensures.faults_front
 
 pub returns-clause-told_too_long : goal.returns-clause-told_too_long
 returns-clause-told_too_long g c = λ h.
-    told_stop c.args.words.now (g.H.Shelf.files c.args.shelf.now) (g.S.Source.left c.args.source.now) c.run.result TooLong c.finish.result (g.E.Sink.faults c.args.err.now) (g.E.Sink.faults c.run.new.err) (g.E.Sink.faults c.finish.new.err) (g.E.Sink.held c.args.err.now) (g.E.Sink.held c.run.new.err) (g.E.Sink.held c.finish.new.err)
+    told_stop c.args.words.now (g.H.Shelf.files c.args.shelf.now) (g.S.Source.left c.args.source.now) c.run.result TooLong c.finish.result (ran g c).before.err (ran g c).after.err (last g c)
     c.finish.ensures.status c.finish.ensures.told h refl refl c.run.ensures.later c.run.ensures.faults_front
 
 pub returns-clause-told_memory : goal.returns-clause-told_memory
 returns-clause-told_memory g c = λ h.
-    told_short c.args.words.now (g.H.Shelf.files c.args.shelf.now) (g.S.Source.left c.args.source.now) (g.S.Source.left c.run.new.source) _ c.run.result c.finish.result (g.E.Sink.held c.args.err.now) (g.E.Sink.held c.run.new.err) (g.E.Sink.held c.finish.new.err) c.finish.ensures.status h
-    (record {
-      wrong = c.run.ensures.words.0;
-      refusals = c.run.ensures.refused;
-      rises = outside_rose (g.H.Shelf.faults c.args.shelf.now) (g.H.Shelf.faults c.run.new.shelf) (g.S.Source.faults c.args.source.now) (g.S.Source.faults c.run.new.source) (g.O.Sink.faults c.args.out.now) (g.O.Sink.faults c.run.new.out) (g.E.Sink.faults c.args.err.now) (g.E.Sink.faults c.run.new.err) (g.E.Sink.faults c.finish.new.err) c.run.result c.run.ensures.counts c.finish.ensures.later;
-      long = c.run.ensures.too_long;
-    }) (c.finish.ensures.short h) c.run.ensures.faults_front
+    told_short c.args.words.now (g.H.Shelf.files c.args.shelf.now) (g.S.Source.left c.args.source.now) (then_err (ran g c) (last g c)) c.run.result c.finish.result (g.E.Sink.held c.run.new.err) c.finish.ensures.status h
+    (known g c)
+    (c.finish.ensures.short h) c.run.ensures.faults_front
 
 pub returns-clause-unread : goal.returns-clause-unread
 returns-clause-unread g c = λ h. c.run.ensures.unread (is_refusal c.run.result c.finish.result c.finish.ensures.status h)

@@ -2,9 +2,9 @@ use Rattle.std.proofs.Common.{All, subst}
 use Rattle.std.proofs.lemmas.List.{take_all}
 use Rattle.std.proofs.lemmas.List.Elements.{All-more}
 use Rattle.weighted_relations.specs.Machines.{WellFormed}
-use Rattle.compose_filter.specs.Sorted.{HasSortedRows}
+use Rattle.fst_core.specs.Sorted.{HasSortedRows}
 use Rattle.state_tuples.proofs.cascades.all_sorted.Goals as goal
-use Rattle.state_tuples.proofs.cascades.all_sorted.Goals.{then-rows_sorted, else-rows_sorted}
+use Rattle.state_tuples.proofs.cascades.all_sorted.Goals.{then-is_sorted, else-is_sorted}
 
 pub loop-part-preserved : goal.loop-part-preserved
 loop-part-preserved c =
@@ -12,10 +12,10 @@ loop-part-preserved c =
     let i = c.loop-part.part-index in
     let m = c.part-item.result in
     record {
-      sound = All-more WellFormed parts i m c.loop-part-test.true c.loop-part.invariant.sound (subst WellFormed c.part-item.is c.rows_sorted.ensures.sound);
-      sorted = elim c.if-rows_sorted.branch [
-        | then-rows_sorted w ↦ λ t. All-more HasSortedRows parts i m c.loop-part-test.true (c.loop-part.invariant.sorted (cc)) (subst HasSortedRows c.part-item.is (c.rows_sorted.ensures.sorted w.if-rows_sorted.true))
-        | else-rows_sorted w ↦ λ t. absurd (cc)
+      sound = All-more WellFormed parts i m c.loop-part-test.true c.loop-part.invariant.sound (subst WellFormed c.part-item.is c.start-start.ensures.sound);
+      sorted = elim c.if-is_sorted.branch [
+        | then-is_sorted w ↦ λ t. All-more HasSortedRows parts i m c.loop-part-test.true (c.loop-part.invariant.sorted (cc)) (subst HasSortedRows c.part-item.is (c.is_sorted.ensures.sorted.0 w.if-is_sorted.true))
+        | else-is_sorted w ↦ λ t. absurd (cc)
       ];
     }
 

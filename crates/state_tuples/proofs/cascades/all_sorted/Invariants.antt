@@ -1,6 +1,6 @@
 use Rattle.std.proofs.Common.{All, IsTrue, take}
 use Rattle.weighted_relations.specs.Machines.{WellFormed}
-use Rattle.compose_filter.specs.Sorted.{HasSortedRows}
+use Rattle.fst_core.specs.Sorted.{HasSortedRows}
 use Rattle.state_tuples.proofs.cascades.all_sorted.Given as goal
 
 abbrev pub invariant-loop-part : goal.invariant-loop-part

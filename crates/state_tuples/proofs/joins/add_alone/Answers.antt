@@ -1,6 +1,6 @@
 use Rattle.weighted_relations.specs.declared.Arc.{Arc}
 use Rattle.state_tuples.specs.Stages.{alone_arc}
-use Rattle.compose_filter.proofs.Loops.{kept_none, kept_some}
+use Rattle.fst_core.proofs.Loops.{kept_none, kept_some}
 use Rattle.state_tuples.proofs.joins.add_alone.Goals as goal
 use Rattle.state_tuples.proofs.joins.add_alone.Goals.{in-Some+in_ok-push, in_default}
 

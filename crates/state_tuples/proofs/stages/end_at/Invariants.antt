@@ -1,6 +1,6 @@
 use Rattle.std.proofs.Common.{◌≡◌}
 use Rattle.state_tuples.specs.Positions.{back}
-use Rattle.state_tuples.specs.Expansions.{finality}
+use Rattle.compose_filter.specs.Expansions.{finality}
 use Rattle.state_tuples.specs.Cascades.{no_part}
 use Rattle.state_tuples.proofs.stages.end_at.Given as goal
 

@@ -1,4 +1,4 @@
-use Rattle.std.proofs.Common.{◌≡◌, ◌<◌, ◌≤◌, length, subst, sym, ◌∙◌, arith}
+use Rattle.std.proofs.Common.{◌<◌, ◌≤◌, length, subst, sym, arith}
 use Rattle.rewrite_rules.proofs.Grouping.{first_byte}
 use Rattle.rewrite_rules.proofs.classes.Classes.like.Goals as goal
 

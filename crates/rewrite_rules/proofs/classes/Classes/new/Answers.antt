@@ -1,5 +1,5 @@
-use Rattle.std.proofs.Common.{◌≡◌, ◌∷◌, ◌++◌, [], List, ℕ, map, Vec, Global, subst, sym, ap, ◌∙◌, arith}
-use Rattle.rewrite_rules.specs.Classes.{Classing, AreClassesTo}
+use Rattle.std.proofs.Common.{◌≡◌, ◌∷◌, ◌++◌, [], ℕ, map, Vec, Global, subst, sym, ap, ◌∙◌, arith}
+use Rattle.rewrite_rules.specs.Classes.{AreClassesTo}
 use Rattle.rewrite_rules.proofs.Grouping.{classes_none}
 use Rattle.rewrite_rules.proofs.classes.Classes.new.Goals as goal
 

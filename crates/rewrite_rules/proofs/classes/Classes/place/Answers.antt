@@ -1,4 +1,4 @@
-use Rattle.std.proofs.Common.{◌+◌, ◌<◌, subst, sym}
+use Rattle.std.proofs.Common.{◌+◌, subst, sym}
 use Rattle.rewrite_rules.specs.Classes.{AreClassesTo}
 use Rattle.rewrite_rules.proofs.Grouping.{classes_joined, classes_opened}
 use Rattle.rewrite_rules.proofs.classes.Classes.place.Goals as goal

@@ -1,6 +1,0 @@
-use Rattle.std.proofs.Common.{◌≡◌}
-use Rattle.fst_core.specs.Turned.{TurnedArcs, Below}
-use Rattle.compose_filter.proofs.lives.backwards.Given as goal
-
-abbrev pub invariant-loop-s : goal.invariant-loop-s
-invariant-loop-s l = record { turned : TurnedArcs l.m (Below l.s) l.built.arcs; finals : l.built.finals ≡ l.initial.built.finals }

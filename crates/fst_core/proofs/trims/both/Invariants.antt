@@ -1,7 +1,0 @@
-use Rattle.std.proofs.Common.{◌≡◌, ◌↔◌, ◌<◌, ℕ, length}
-use Rattle.std.specs.List.{Contains}
-use Rattle.fst_core.specs.Useful.{IsKept}
-use Rattle.fst_core.proofs.trims.both.Given as goal
-
-abbrev pub invariant-loop-s : goal.invariant-loop-s
-invariant-loop-s l = record { count : length l.marks.items ≡ l.s; marks : (t : ℕ) → t < l.s → IsKept l.marks.items t ↔ (Contains l.ahead.states t × Contains l.behind.states t) }

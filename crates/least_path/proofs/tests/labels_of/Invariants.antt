@@ -1,6 +1,0 @@
-use Rattle.std.proofs.Common.{All}
-use Rattle.weighted_relations.specs.Relations.{IsLabel}
-use Rattle.least_path.proofs.tests.labels_of.Given as goal
-
-abbrev pub invariant-loop-b : goal.invariant-loop-b
-invariant-loop-b l = All IsLabel l.labels.items

@@ -1,6 +1,0 @@
-use Rattle.std.specs.Prelude.{All}
-use Rattle.weighted_relations.specs.Relations.{IsLabel}
-use Rattle.lexicon_trees.proofs.tests.labels.Given as goal
-
-abbrev pub invariant-loop-byte : goal.invariant-loop-byte
-invariant-loop-byte l = All IsLabel l.all.items

@@ -1,0 +1,4 @@
+pub mod Ways
+pub mod Shapes
+pub mod Expanding
+pub mod ReadsFirst

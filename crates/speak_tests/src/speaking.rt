@@ -1,0 +1,980 @@
+//! Whole runs of the top call.
+
+use norm_base::{Failed, MemShelf, MemSink, MemSource, Name, Source};
+use speak_core::{NoWatch, speak};
+use std::alloc::{AllocError, Global};
+use std::test::Fail;
+use std::thread::Threads;
+
+const SETUP: &[u8] = b"tokenizer_grammar: \"g.grm\"\ntokenizer_rule: \"MAIN\"\n";
+
+const COMMAND: [&str; 5] = ["speak", "--setup", "s", "--mode", "classify"];
+
+// What a run left: its status, its output and its errors.
+#[derive(Drop)]
+struct Left {
+    status: u8,
+    out: MemSink,
+    err: MemSink,
+}
+
+fn words(alloc: Global, all: &[&str]) -> Result<Vec<String>, AllocError> {
+    let mut words = Vec::new(alloc);
+    for word in all {
+        words.push(String::from_str(alloc, *word)?)?;
+    }
+    Ok(words)
+}
+
+fn files_of(alloc: Global, files: &[(&str, &[u8])]) -> Result<Vec<(Name, Vec<u8>)>, AllocError> {
+    let mut all = Vec::new(alloc);
+    for (name, bytes) in files {
+        all.push((
+            Name::new(alloc, name.as_bytes())?,
+            Vec::from_slice(alloc, *bytes)?,
+        ))?;
+    }
+    Ok(all)
+}
+
+// A run of the command over these files and one more, which is the setup, on devices that don't fail.
+fn run_files<R: Threads + Sync>(
+    rt: &R,
+    alloc: Global,
+    setup: &[u8],
+    grammar: &[u8],
+    other: (&str, &[u8]),
+    input: &[u8],
+) -> Result<Left, AllocError> {
+    let files = files_of(alloc, &[("s", setup), ("g.grm", grammar), other])?;
+    let source = MemSource::new(Vec::from_slice(alloc, input)?, 2, Vec::new(alloc));
+    run_with(rt, alloc, &COMMAND, files, source, &[&[], &[], &[]])
+}
+
+// A run of these words, on devices whose calls of these numbers fail: the shelf's, the output's and the errors'.
+fn run_with<R: Threads + Sync, S: Source + Drop>(
+    rt: &R,
+    alloc: Global,
+    command: &[&str],
+    files: Vec<(Name, Vec<u8>)>,
+    source: S,
+    fails: &[&[u64]; 3],
+) -> Result<Left, AllocError> {
+    let words = words(alloc, command)?;
+    let mut shelf = MemShelf::new(alloc, files, Vec::from_slice(alloc, fails[0])?);
+    let mut source = source;
+    let mut out = MemSink::new(alloc, 1, Vec::from_slice(alloc, fails[1])?);
+    let mut err = MemSink::new(alloc, 5, Vec::from_slice(alloc, fails[2])?);
+    let status = speak(
+        rt,
+        alloc,
+        &words,
+        &mut shelf,
+        &mut source,
+        &mut out,
+        &mut err,
+        &NoWatch,
+    );
+    Ok(Left { status, out, err })
+}
+
+// A grammar, one more file, an input, the output, the errors, the status.
+const SPOKEN: [(&[u8], (&str, &[u8]), &[u8], &[u8], &[u8], u8); 39] = [
+    // weights, and what comes first among equal ones
+    (
+        b"export MAIN = (\"a\" : \"b\") | (\"a\" : (\"c\" <2>));",
+        ("", b""),
+        b"a\n",
+        b"b\n",
+        b"",
+        0,
+    ),
+    (
+        b"export MAIN = (\"a\" : (\"b\" <2>)) | (\"a\" : \"c\");",
+        ("", b""),
+        b"a\n",
+        b"c\n",
+        b"",
+        0,
+    ),
+    (
+        b"export MAIN = (\"a\" : \"zz\") | (\"a\" : \"y\");",
+        ("", b""),
+        b"a\n",
+        b"y\n",
+        b"",
+        0,
+    ),
+    (
+        b"export MAIN = (\"a\" : \"y\") | (\"a\" : \"x\");",
+        ("", b""),
+        b"a\n",
+        b"x\n",
+        b"",
+        0,
+    ),
+    (
+        b"export MAIN = (\"a\" : \"b\" <0.5>) | (\"a\" : \"c\" <0.4999>);",
+        ("", b""),
+        b"a\n",
+        b"c\n",
+        b"",
+        0,
+    ),
+    (
+        b"export MAIN = (\"a\" : \"b\" <0.0002>) | (\"a\" : \"zz\" <.0001>);",
+        ("", b""),
+        b"a\n",
+        b"zz\n",
+        b"",
+        0,
+    ),
+    (
+        b"export MAIN = (((\"a\" : \"x\") <0.6>) | ((\"aa\" : \"y\") <1>))*;",
+        ("", b""),
+        b"aa\n",
+        b"y\n",
+        b"",
+        0,
+    ),
+    // lines
+    (
+        b"export MAIN = (\"a\" : \"b\") | (\"a\" : (\"c\" <2>));",
+        ("", b""),
+        b"b\n",
+        b"\n",
+        b"line 1: no path\n",
+        1,
+    ),
+    (
+        b"export MAIN = (\"a\" : \"b\") | (\"a\" : (\"c\" <2>));",
+        ("", b""),
+        b"a\n\na\n",
+        b"b\n\nb\n",
+        b"",
+        0,
+    ),
+    (
+        b"export MAIN = (\"a\" : \"b\") | (\"a\" : (\"c\" <2>));",
+        ("", b""),
+        b"a\r\na",
+        b"b\nb\n",
+        b"",
+        0,
+    ),
+    (
+        b"export MAIN = (\"a\" : \"b\") | (\"a\" : (\"c\" <2>));",
+        ("", b""),
+        b"",
+        b"",
+        b"",
+        0,
+    ),
+    (
+        b"export MAIN = \"a\" : \"b\";",
+        ("", b""),
+        b"a\n\nb\n",
+        b"b\n\n\n",
+        b"line 3: no path\n",
+        1,
+    ),
+    (
+        b"export MAIN = \"a\" : \"b\";",
+        ("", b""),
+        b"\n\n",
+        b"\n\n",
+        b"",
+        0,
+    ),
+    (
+        b"export MAIN = \"a\" : \"b\";",
+        ("", b""),
+        b"a\r",
+        b"\n",
+        b"line 1: no path\n",
+        1,
+    ),
+    (
+        b"export MAIN = \"a[13]\" : \"b\";",
+        ("", b""),
+        b"a\r\r\na\r\n",
+        b"b\n\n",
+        b"line 2: no path\n",
+        1,
+    ),
+    (
+        b"export MAIN = \"a\"*;",
+        ("", b""),
+        b"a\0a\naa\n",
+        b"\naa\n",
+        b"line 1: byte 0 at 1\n",
+        1,
+    ),
+    // closures
+    (
+        b"export MAIN = \"a\" (\"\" : \"x\")*;",
+        ("", b""),
+        b"a\n",
+        b"a\n",
+        b"",
+        0,
+    ),
+    (
+        b"export MAIN = (\"\"*)* \"a\" ((\"\" : \"x\")*)*;",
+        ("", b""),
+        b"a\n",
+        b"a\n",
+        b"",
+        0,
+    ),
+    (
+        b"export MAIN = ((\"a\" : \"x\") | (\"aa\" : \"y\"))*;",
+        ("", b""),
+        b"aaa\naa\naaaa\n",
+        b"xy\ny\nyy\n",
+        b"",
+        0,
+    ),
+    (
+        b"export MAIN = (\"a\" | \"ab\") (\"bc\" | \"c\");",
+        ("", b""),
+        b"abc\n",
+        b"abc\n",
+        b"",
+        0,
+    ),
+    (
+        b"export MAIN = \"a\"{2,3};",
+        ("", b""),
+        b"a\naa\naaa\naaaa\n",
+        b"\naa\naaa\n\n",
+        b"line 1: no path\nline 4: no path\n",
+        1,
+    ),
+    (
+        b"export MAIN = (\"a\" : \"b\")+ \"c\"?;",
+        ("", b""),
+        b"c\na\naac\n",
+        b"\nb\nbbc\n",
+        b"line 1: no path\n",
+        1,
+    ),
+    // sides, difference and string files
+    (
+        b"export MAIN = Invert[\"a\" : \"b\"];",
+        ("", b""),
+        b"a\nb\n",
+        b"\na\n",
+        b"line 1: no path\n",
+        1,
+    ),
+    (
+        b"export MAIN = Project[\"a\" : \"b\", 'output'];",
+        ("", b""),
+        b"b\n",
+        b"b\n",
+        b"",
+        0,
+    ),
+    (
+        b"export MAIN = Optimize[(\"a\" : \"b\") | \"c\"];",
+        ("", b""),
+        b"a\nc\n",
+        b"b\nc\n",
+        b"",
+        0,
+    ),
+    (
+        b"export MAIN = (\"a\" | \"b\")* - \"ab\";",
+        ("", b""),
+        b"ab\nba\n",
+        b"\nba\n",
+        b"line 1: no path\n",
+        1,
+    ),
+    (
+        b"export MAIN = StringFile['p.txt'];",
+        ("p.txt", b"one\tun\t0.5\none\tuno\ntwo\n"),
+        b"one\ntwo\n",
+        b"uno\ntwo\n",
+        b"",
+        0,
+    ),
+    // composition
+    (
+        b"export MAIN = (\"a\" : \"b\") @ (\"b\" : \"c\");",
+        ("", b""),
+        b"a\n",
+        b"c\n",
+        b"",
+        0,
+    ),
+    (
+        b"export MAIN = (\"a\" : \"b\" <1>) @ ((\"b\" : \"c\" <2>) | (\"b\" : \"d\" <1.5>));",
+        ("", b""),
+        b"a\n",
+        b"d\n",
+        b"",
+        0,
+    ),
+    (
+        b"export MAIN = (\"a\" : \"\") @ (\"\" : \"x\")*;",
+        ("", b""),
+        b"a\n",
+        b"\n",
+        b"",
+        0,
+    ),
+    // context rewrites
+    (
+        b"s = (\"a\" | \"b\")*; export MAIN = CDRewrite[\"a\" : \"b\", \"a\", \"\", s];",
+        ("", b""),
+        b"aaa\n",
+        b"aba\n",
+        b"",
+        0,
+    ),
+    (
+        b"s = (\"a\" | \"b\")*; export MAIN = CDRewrite[\"a\" : \"b\", \"\", \"\", s, 'ltr', 'opt'];",
+        ("", b""),
+        b"aaa\n",
+        b"aaa\n",
+        b"",
+        0,
+    ),
+    (
+        b"s = (\"a\" | \"b\")*; export MAIN = CDRewrite[\"a\" : \"b\", \"[BOS]\", \"\", s];",
+        ("", b""),
+        b"aa\n",
+        b"ba\n",
+        b"",
+        0,
+    ),
+    (
+        b"s = (\"a\" | \"b\")*; export MAIN = CDRewrite[\"a\" : \"b\", \"\", \"a\", s];",
+        ("", b""),
+        b"aaa\n",
+        b"bba\n",
+        b"",
+        0,
+    ),
+    (
+        b"s = (\"a\" | \"b\")*; export MAIN = CDRewrite[\"a\" : \"b\", \"\", \"[EOS]\", s];",
+        ("", b""),
+        b"aa\n",
+        b"ab\n",
+        b"",
+        0,
+    ),
+    (
+        b"s = (\"a\" | \"b\")*; export MAIN = CDRewrite[\"a\" : \"b\", \"\", \"\", s];",
+        ("", b""),
+        b"ac\n",
+        b"\n",
+        b"line 1: no path\n",
+        1,
+    ),
+    // names, functions and imports
+    (
+        b"import 'lib.grm' as lib; export MAIN = lib.Double[\"a\" : \"b\"];",
+        ("lib.grm", b"func Double[x] { return x x; }"),
+        b"aa\n",
+        b"bb\n",
+        b"",
+        0,
+    ),
+    (
+        b"import 'lib.grm' as lib; export MAIN = lib.digit+;",
+        ("lib.grm", b"export digit = \"0\" : \"zero \";"),
+        b"00\n",
+        b"zero zero \n",
+        b"",
+        0,
+    ),
+    (
+        b"x = \"a\"; func F[x] { y = x x; return y : \"b\"; } export MAIN = F[\"c\"] | x;",
+        ("", b""),
+        b"cc\na\n",
+        b"b\na\n",
+        b"",
+        0,
+    ),
+];
+
+// A grammar, one more file, the text of its refusal.
+const REFUSED: [(&[u8], (&str, &[u8]), &[u8]); 20] = [
+    // reading
+    (
+        b"export MAIN = \"a\" <0.00001>;",
+        ("", b""),
+        b"g.grm: byte 18: bad weight\n",
+    ),
+    (
+        b"export MAIN = \"a",
+        ("", b""),
+        b"g.grm: byte 14: bad lexeme\n",
+    ),
+    (
+        b"x = (((((((((((((((((((((((((((((((((((((((((((((((((((((((((((((((((((((((((((((((((((((((((((((((((((((((((((((((((((((((((((((((((",
+        ("", b""),
+        b"g.grm: byte 132: brackets too deep\n",
+    ),
+    (
+        b"x = \"a\"; export MAIN = ;",
+        ("", b""),
+        b"g.grm: statement 2: syntax\n",
+    ),
+    (
+        b"import 'h.grm' as h;",
+        ("h.grm", b"x = ~;"),
+        b"h.grm: byte 4: bad lexeme\n",
+    ),
+    // names
+    (
+        b"import 'l.grm' as l;",
+        ("", b""),
+        b"g.grm: statement 1: not found l.grm\n",
+    ),
+    (
+        b"export MAIN = x;",
+        ("", b""),
+        b"g.grm: statement 1: unknown name x\n",
+    ),
+    (
+        b"import 'h.grm' as h; export MAIN = h.x;",
+        ("h.grm", b"x = \"a\";"),
+        b"g.grm: statement 2: h.x not exported\n",
+    ),
+    (
+        b"export MAIN = \"a\"; MAIN = \"b\";",
+        ("", b""),
+        b"g.grm: statement 2: MAIN defined twice\n",
+    ),
+    (
+        b"import 'h.grm' as h;",
+        ("h.grm", b"import 'g.grm' as g;"),
+        b"h.grm: statement 1: g.grm imports itself\n",
+    ),
+    (
+        b"func F[x] { return x; } export MAIN = F[\"a\", \"b\"];",
+        ("", b""),
+        b"g.grm: statement 2: wants 1 arguments, has 2\n",
+    ),
+    // kinds and sizes
+    (
+        b"export MAIN = (\"a\" : \"b\") : \"c\";",
+        ("", b""),
+        b"g.grm: statement 1: not an acceptor\n",
+    ),
+    (
+        b"export MAIN = \"a\" - (\"b\" <1>);",
+        ("", b""),
+        b"g.grm: statement 1: weighted\n",
+    ),
+    (
+        b"s = (\"a\" | \"b\")*; export MAIN = CDRewrite[\"a\" : \"b\", \"\", \"\", s, 'sim'];",
+        ("", b""),
+        b"g.grm: statement 2: not supported\n",
+    ),
+    (
+        b"export MAIN = StringFile['p.txt'];",
+        ("p.txt", b"one\na\tb\t1\tc\n"),
+        b"g.grm: statement 1: bad pair in p.txt line 2\n",
+    ),
+    (
+        b"a = \"x\"{9999,9999}; export MAIN = a{9999,9999};",
+        ("", b""),
+        b"g.grm: statement 2: too large\n",
+    ),
+    // the rule: its export is looked at before its marks, and these before its rewrites
+    (
+        b"MAIN = \"[BOS]\"; export OTHER = \"a\";",
+        ("", b""),
+        b"setup: no rule MAIN in g.grm\n",
+    ),
+    (
+        b"export MAIN = \"[BOS]\" | \"a\";",
+        ("", b""),
+        b"setup: rule MAIN in g.grm holds a mark\n",
+    ),
+    (
+        b"s = (\"a\" | \"b\")*; export MAIN = CDRewrite[\"\" : \"b\", \"\", \"\", s];",
+        ("", b""),
+        b"setup: rule MAIN rewrites the empty text\n",
+    ),
+    (
+        b"s = (\"a\" | \"b\")*; export MAIN = \"[EOS]\" | CDRewrite[\"\" : \"b\", \"\", \"\", s];",
+        ("", b""),
+        b"setup: rule MAIN in g.grm holds a mark\n",
+    ),
+];
+
+// A setup, the text of its refusal.
+const SETUPS: [(&[u8], &[u8]); 8] = [
+    (b"", b"setup: tokenizer_grammar is missing\n"),
+    (
+        b"tokenizer_grammar: \"g.grm\"\n",
+        b"setup: tokenizer_rule is missing\n",
+    ),
+    (
+        b"# one\n\ntokenizer_grammar \"g.grm\"\n",
+        b"setup: line 3 not understood\n",
+    ),
+    (
+        b"tokenizer_grammar: \"g.grm\"\ntokenizer_grammar: \"g.grm\"\n",
+        b"setup: line 2 repeats a key\n",
+    ),
+    (
+        b"tokenizer_grammar: \"no.grm\"\ntokenizer_rule: \"A\"\ntokenizer_rule: \"B\"\n",
+        b"no.grm: statement 0: not found no.grm\n",
+    ),
+    (
+        b"tokenizer_rule: \"A\"\ntokenizer_rule: \"B\"\n",
+        b"setup: tokenizer_grammar is missing\n",
+    ),
+    (
+        b"tokenizer_grammar: \"no.grm\"\ntokenizer_rule: \"MAIN\"\n",
+        b"no.grm: statement 0: not found no.grm\n",
+    ),
+    (
+        b"tokenizer_grammar: \"g.grm\"\ntokenizer_rule: \"OTHER\"\n",
+        b"setup: no rule OTHER in g.grm\n",
+    ),
+];
+
+// The names of some rules, their grammar, an input, the output, the errors, the status.
+const CASCADES: [(&[&str], &[u8], &[u8], &[u8], &[u8], u8); 17] = [
+    // moves that read nothing and moves that write nothing
+    (
+        &["A", "B", "C", "D"],
+        b"export A = \"a\" : \"b\"; export B = \"b\" : \"\"; export C = \"\" : \"c\"; export D = \"c\" : \"d\";",
+        b"a\n",
+        b"d\n",
+        b"",
+        0,
+    ),
+    (
+        &["ONE", "TWO"],
+        b"export ONE = (\"a\" : \"\"); export TWO = (\"\" : \"z\");",
+        b"a\n",
+        b"z\n",
+        b"",
+        0,
+    ),
+    (
+        &["A", "B", "C"],
+        b"export A = \"a\" : \"\"; export B = (\"\" : \"x\")*; export C = \"xx\" : \"y\";",
+        b"a\n",
+        b"y\n",
+        b"",
+        0,
+    ),
+    (
+        &["A", "B", "C", "D"],
+        b"export A = (\"a\" : \"\") (\"\" : \"x\"); export B = (\"x\" : \"\") (\"\" : \"y\"); export C = (\"\" : \"\")* (\"y\" : \"z\"); export D = (\"\" : \"p\")* (\"z\" : \"q\") (\"\" : \"r\");",
+        b"a\n",
+        b"qr\n",
+        b"",
+        0,
+    ),
+    // cycles that read and write nothing in the middle rule, where each round has a weight
+    (
+        &["A", "B", "C"],
+        b"export A = \"a\" : \"b\"; export B = (\"\" : \"\" <1>)* (\"b\" : \"c\") (\"\" : \"\" <1>){2,4}; export C = (\"c\" : \"d\" <2>) | (\"\" : \"\")* (\"c\" : \"e\" <2.0001>);",
+        b"a\n",
+        b"d\n",
+        b"",
+        0,
+    ),
+    // ties in each rule
+    (
+        &["A", "B", "C"],
+        b"export A = (\"a\" : \"b\") | (\"a\" : \"c\"); export B = (\"b\" : \"d\") | (\"c\" : \"d\") | (\"c\" : \"e\"); export C = (\"d\" : \"x\") | (\"e\" : \"x\") | (\"d\" : \"wv\") | (\"e\" : \"w\");",
+        b"a\n",
+        b"w\n",
+        b"",
+        0,
+    ),
+    // a rule twice, and the order of the rules
+    (
+        &["A", "A"],
+        b"export A = (\"a\" : \"b\") | (\"b\" : \"c\");",
+        b"a\nb\n",
+        b"c\n\n",
+        b"line 2: no path\n",
+        1,
+    ),
+    (
+        &["B", "A"],
+        b"export A = \"a\" : \"b\"; export B = \"b\" : \"a\";",
+        b"b\na\n",
+        b"b\n\n",
+        b"line 2: no path\n",
+        1,
+    ),
+    // the weights of all rules are added, and ties are broken by what the last one writes
+    (
+        &["A", "B"],
+        b"export A = (\"a\" : \"b\" <2>) | (\"a\" : \"c\" <1>); export B = (\"b\" : \"x\") | (\"c\" : \"y\" <2>);",
+        b"a\n",
+        b"x\n",
+        b"",
+        0,
+    ),
+    (
+        &["A", "B"],
+        b"export A = (\"a\" : \"b\" <2>) | (\"a\" : \"c\" <1>); export B = (\"b\" : \"x\" <.5>) | (\"c\" : \"yy\" <1.4999>);",
+        b"a\n",
+        b"yy\n",
+        b"",
+        0,
+    ),
+    (
+        &["A", "B"],
+        b"export A = (\"a\" : \"bb\") | (\"a\" : \"c\"); export B = (\"bb\" : \"x\") | (\"c\" : \"xx\") | (\"c\" : \"w\");",
+        b"a\n",
+        b"w\n",
+        b"",
+        0,
+    ),
+    (
+        &["A", "B"],
+        b"s = (\"a\" | \"b\")*; export A = CDRewrite[\"a\" : \"b\", \"a\", \"\", s]; export B = CDRewrite[\"b\" : \"\", \"b\", \"\", s];",
+        b"aaa\nabb\n",
+        b"aba\nab\n",
+        b"",
+        0,
+    ),
+    // the first rule that isn't exported or is marked, and only then the first that rewrites the empty text
+    (
+        &["A", "MARKED", "MISSING"],
+        b"export A = \"a\"; export MARKED = \"[BOS]\";",
+        b"a\n",
+        b"",
+        b"setup: rule MARKED in g.grm holds a mark\n",
+        3,
+    ),
+    (
+        &["A", "MISSING", "MARKED"],
+        b"export A = \"a\"; export MARKED = \"[BOS]\";",
+        b"a\n",
+        b"",
+        b"setup: no rule MISSING in g.grm\n",
+        3,
+    ),
+    (
+        &["EMPTY", "MISSING"],
+        b"export EMPTY = CDRewrite[\"\" : \"b\", \"\", \"\", \"a\"*];",
+        b"a\n",
+        b"",
+        b"setup: no rule MISSING in g.grm\n",
+        3,
+    ),
+    (
+        &["A", "EMPTY", "MARKED"],
+        b"export A = \"a\"; export EMPTY = CDRewrite[\"\" : \"b\", \"\", \"\", \"a\"*]; export MARKED = \"[EOS]\";",
+        b"a\n",
+        b"",
+        b"setup: rule MARKED in g.grm holds a mark\n",
+        3,
+    ),
+    (
+        &["A", "SECOND", "FIRST"],
+        b"export A = \"a\"; export FIRST = CDRewrite[\"\" : \"b\", \"\", \"\", \"a\"*]; export SECOND = \"a\" | FIRST;",
+        b"a\n",
+        b"",
+        b"setup: rule SECOND rewrites the empty text\n",
+        3,
+    ),
+];
+
+/// The setup of these rules of `g.grm`.
+fn setup_of(alloc: Global, rules: &[&str]) -> Result<String, AllocError> {
+    let mut setup = String::from_str(alloc, "tokenizer_grammar: \"g.grm\"\n")?;
+    for rule in rules {
+        setup.push_str(&format!(in alloc; "tokenizer_rule: \"{rule}\"\n")?)?;
+    }
+    Ok(setup)
+}
+
+#[test]
+fn cascades_are_spoken(rt: HostRuntime) -> Result<(), Fail> {
+    for (rules, grammar, input, out, err, status) in CASCADES {
+        let setup = setup_of(rt.alloc(), rules)?;
+        let left = run_files(&rt, rt.alloc(), setup.as_bytes(), grammar, ("", b""), input)?;
+        assert_eq!(rt; left.err.bytes(), err);
+        assert_eq!(rt; left.out.bytes(), out);
+        assert_eq!(rt; left.status, status);
+    }
+    Ok(())
+}
+
+#[test]
+fn lines_are_spoken(rt: HostRuntime) -> Result<(), Fail> {
+    for (grammar, other, input, out, err, status) in SPOKEN {
+        let left = run_files(&rt, rt.alloc(), SETUP, grammar, other, input)?;
+        assert_eq!(rt; left.err.bytes(), err);
+        assert_eq!(rt; left.out.bytes(), out);
+        assert_eq!(rt; left.status, status);
+    }
+    Ok(())
+}
+
+#[test]
+fn grammars_are_refused(rt: HostRuntime) -> Result<(), Fail> {
+    for (grammar, other, err) in REFUSED {
+        let left = run_files(&rt, rt.alloc(), SETUP, grammar, other, b"a\n")?;
+        assert_eq!(rt; left.err.bytes(), err);
+        assert_eq!(rt; left.out.bytes(), b"".as_slice());
+        assert_eq!(rt; left.status, 3);
+    }
+    Ok(())
+}
+
+#[test]
+fn setups_are_refused(rt: HostRuntime) -> Result<(), Fail> {
+    for (setup, err) in SETUPS {
+        let left = run_files(
+            &rt,
+            rt.alloc(),
+            setup,
+            b"export MAIN = \"a\";",
+            ("", b""),
+            b"a\n",
+        )?;
+        assert_eq!(rt; left.err.bytes(), err);
+        assert_eq!(rt; left.out.bytes(), b"".as_slice());
+        assert_eq!(rt; left.status, 3);
+    }
+    Ok(())
+}
+
+/// The 33 files of a chain of imports, and the setup.
+fn chain(alloc: Global) -> Result<Vec<(Name, Vec<u8>)>, AllocError> {
+    let mut files = Vec::new(alloc);
+    files.push((Name::new(alloc, b"s")?, Vec::from_slice(alloc, SETUP)?))?;
+    files.push((
+        Name::new(alloc, b"g.grm")?,
+        Vec::from_slice(alloc, b"import '2' as a;")?,
+    ))?;
+    for number in 2..33u64 {
+        let next = number + 1;
+        let name = format!(in alloc; "{number}")?;
+        let text = format!(in alloc; "import '{next}' as a;")?;
+        files.push((
+            Name::new(alloc, name.as_bytes())?,
+            Vec::from_slice(alloc, text.as_bytes())?,
+        ))?;
+    }
+    Ok(files)
+}
+
+#[test]
+fn a_chain_of_33_files_is_refused(rt: HostRuntime) -> Result<(), Fail> {
+    let alloc = rt.alloc();
+    let source = MemSource::new(Vec::new(alloc), 1, Vec::new(alloc));
+    let left = run_with(
+        &rt,
+        alloc,
+        &COMMAND,
+        chain(alloc)?,
+        source,
+        &[&[], &[], &[]],
+    )?;
+    assert_eq!(rt;
+        left.err.bytes(),
+        b"32: statement 1: imports deeper than 32\n".as_slice()
+    );
+    assert_eq!(rt; left.status, 3);
+    Ok(())
+}
+
+// A text and so many bytes `a`, as a line.
+fn line_of(alloc: Global, text: &[u8], count: usize) -> Result<Vec<u8>, AllocError> {
+    let mut line = Vec::from_slice(alloc, text)?;
+    line.extend_from_slice(&vec![in alloc; b'a'; count]?)?;
+    line.push(b'\n')?;
+    Ok(line)
+}
+
+#[test]
+fn the_first_fault_of_a_line_is_told(rt: HostRuntime) -> Result<(), Fail> {
+    let alloc = rt.alloc();
+    let mut input = Vec::from_slice(alloc, b"ab\0\n")?;
+    input.extend_from_slice(&line_of(alloc, b"", 16_385)?)?;
+    input.extend_from_slice(&line_of(alloc, b"", 16_384)?)?;
+    input.extend_from_slice(&line_of(alloc, b"\0b\0", 16_385)?)?;
+    input.extend_from_slice(b"b\n")?;
+    let left = run_files(
+        &rt,
+        alloc,
+        SETUP,
+        b"export MAIN = \"a\"*;",
+        ("", b""),
+        &input,
+    )?;
+    let mut out = Vec::from_slice(alloc, b"\n\n")?;
+    out.extend_from_slice(&line_of(alloc, b"", 16_384)?)?;
+    out.extend_from_slice(b"\n\n")?;
+    assert_eq!(rt; left.out.bytes(), out.as_slice());
+    assert_eq!(rt;
+        left.err.bytes(),
+        b"line 1: byte 0 at 2\nline 2: longer than 16384 bytes\nline 4: byte 0 at 0\nline 5: no path\n".as_slice()
+    );
+    assert_eq!(rt; left.status, 1);
+    Ok(())
+}
+
+// Words, the calls of the shelf, the source, the output and the errors that fail, the output, the errors, the status.
+const RUNS: [(&[&str], [&[u64]; 4], &[u8], &[u8], u8); 21] = [
+    (&[], [&[]; 4], b"", b"bad arguments\n", 2),
+    (&["speak"], [&[]; 4], b"", b"bad arguments\n", 2),
+    (
+        &["speak", "--setup", "s"],
+        [&[]; 4],
+        b"",
+        b"bad arguments\n",
+        2,
+    ),
+    (
+        &["speak", "--setup", "s", "--mode"],
+        [&[]; 4],
+        b"",
+        b"bad arguments\n",
+        2,
+    ),
+    (
+        &["speak", "--setup", "s", "--mode", "speak"],
+        [&[]; 4],
+        b"",
+        b"bad arguments\n",
+        2,
+    ),
+    (
+        &["speak", "--setup", "s", "--mode", "Classify"],
+        [&[]; 4],
+        b"",
+        b"bad arguments\n",
+        2,
+    ),
+    (
+        &["speak", "--setup=", "s", "--mode", "classify"],
+        [&[]; 4],
+        b"",
+        b"bad arguments\n",
+        2,
+    ),
+    (
+        &["speak", "--mode", "classify", "--setup", "s"],
+        [&[]; 4],
+        b"",
+        b"bad arguments\n",
+        2,
+    ),
+    (
+        &["speak", "--setup", "s", "--mode", "classify", "--report"],
+        [&[]; 4],
+        b"",
+        b"bad arguments\n",
+        2,
+    ),
+    (
+        &["speak", "--setup", "no", "--mode", "classify"],
+        [&[]; 4],
+        b"",
+        b"setup: not found\n",
+        3,
+    ),
+    // a refusal that cannot be told keeps its status
+    (&["speak"], [&[], &[], &[], &[2]], b"", b"bad a", 2),
+    // a device that fails ends a run
+    (&COMMAND, [&[1], &[], &[], &[]], b"", b"outside fault\n", 4),
+    (&COMMAND, [&[2], &[], &[], &[]], b"", b"outside fault\n", 4),
+    (&COMMAND, [&[], &[1], &[], &[]], b"", b"outside fault\n", 4),
+    (&COMMAND, [&[], &[3], &[], &[]], b"", b"outside fault\n", 4),
+    (
+        &COMMAND,
+        [&[], &[], &[1], &[]],
+        b"",
+        b"line 2: no path\noutside fault\n",
+        4,
+    ),
+    (
+        &COMMAND,
+        [&[], &[], &[3], &[]],
+        b"b\n",
+        b"line 2: no path\noutside fault\n",
+        4,
+    ),
+    (
+        &COMMAND,
+        [&[], &[], &[], &[1]],
+        b"b\n\n",
+        b"outside fault\n",
+        4,
+    ),
+    (
+        &COMMAND,
+        [&[], &[], &[], &[2]],
+        b"b\n\n",
+        b"line outside fault\n",
+        4,
+    ),
+    (&COMMAND, [&[], &[], &[], &[1, 3]], b"b\n\n", b"outsi", 4),
+    (&COMMAND, [&[], &[], &[4], &[1, 2]], b"b\n\n", b"", 4),
+];
+
+#[test]
+fn runs_end_with_their_status(rt: HostRuntime) -> Result<(), Fail> {
+    let alloc = rt.alloc();
+    for (command, fails, out, err, status) in RUNS {
+        let grammar = b"export MAIN = \"a\" : \"b\";";
+        let files = files_of(alloc, &[("s", SETUP), ("g.grm", grammar)])?;
+        let input = Vec::from_slice(alloc, b"a\nb\n")?;
+        let source = MemSource::new(input, 2, Vec::from_slice(alloc, fails[1])?);
+        let others = [fails[0], fails[2], fails[3]];
+        let left = run_with(&rt, alloc, command, files, source, &others)?;
+        assert_eq!(rt; left.out.bytes(), out);
+        assert_eq!(rt; left.err.bytes(), err);
+        assert_eq!(rt; left.status, status);
+    }
+    Ok(())
+}
+
+// Gives so many times the byte a.
+#[derive(Drop)]
+struct Long {
+    left: u64,
+}
+
+impl Source for Long {
+    ghost use Rattle.std.specs.Prelude.{None, ◌<◌, ◌^◌};
+    ghost use Rattle.std.proofs.Common.{rules};
+
+    ghost left = { λ s. None };
+
+    ghost faults = { λ s. 0 };
+
+    ghost counted = { λ s. Prim.search rules };
+
+    fn read(&mut self, into: &mut [u8]) -> Result<usize, Failed> {
+        let count = self.left.min(into.len() as u64);
+        for byte in into[..count as usize].iter_mut() {
+            *byte = b'a';
+        }
+        self.left -= count;
+        Ok(count as usize)
+    }
+}
+
+#[test]
+fn an_input_past_its_limit_is_refused(rt: HostRuntime) -> Result<(), Fail> {
+    let alloc = rt.alloc();
+    let files = files_of(alloc, &[("s", SETUP), ("g.grm", b"export MAIN = \"b\";")])?;
+    let source = Long { left: 268_435_457 };
+    let left = run_with(&rt, alloc, &COMMAND, files, source, &[&[], &[], &[]])?;
+    assert_eq!(rt; left.status, 6);
+    assert_eq!(rt; left.out.bytes(), b"".as_slice());
+    assert_eq!(rt; left.err.bytes(), b"input too long\n".as_slice());
+    Ok(())
+}

@@ -1,6 +1,0 @@
-use Rattle.std.proofs.Common.{ℕ, ◌<◌, get_or, []}
-use Rattle.std.specs.List.Sorted.{IsNonDecreasingBy}
-use Rattle.state_tuples.proofs.cascades.rows_sorted.Given as goal
-
-abbrev pub invariant-loop-s : goal.invariant-loop-s
-invariant-loop-s l = (k : ℕ) → k < l.s → IsNonDecreasingBy (λ y. y.input) (get_or l.part.arcs k [])
