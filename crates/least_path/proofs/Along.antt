@@ -17,44 +17,44 @@ use Rattle.state_tuples.specs.Cascades.{Cascaded, moves_of, end_of, next_of}
 use Rattle.state_tuples.specs.Orders.{moves_on}
 use Rattle.least_path.specs.declared.node.Node.{Node}
 use Rattle.least_path.specs.declared.node.Node.TheVariants.{At, End}
-use Rattle.least_path.specs.declared.reaching.Search.{Search}
 use Rattle.least_path.specs.Products.{Follows}
 use Rattle.least_path.specs.Growths.{Leading, Steps, AlongMoves, AlongArc, AlongArcs, AtEnd}
-use Rattle.least_path.specs.Keeps.{Grown, IsEdge}
-use Rattle.least_path.proofs.Joining.{grown_then, grown_as}
+use Rattle.least_path.specs.Keeps.{IsEdge}
+use Rattle.least_path.proofs.Growing.{IsGrowth}
 
-pub moves_more : (a b c : Search) (w : ℕ) (y : List ℕ) (r : ℕ) (t : Tuple) (ms : List TupleArc) (i : ℕ) (d : TupleArc) → i < length ms
-    → Grown a b w y (AlongMoves r t (take i ms)) → Grown b c w y (IsEdge (At r (next_of t (get_or ms i d))) (get_or ms i d).weight (label (get_or ms i d).output [])) → Grown a c w y (AlongMoves r t (take (i + 1) ms))
-moves_more a b c w y r t ms i d l f g =
-    let more : take (i + 1) ms ≡ take i ms ++ get_or ms i d ∷ [] = take_more ms i d l in
-    let whole : Grown a c w y (AlongMoves r t (take i ms ++ get_or ms i d ∷ [])) = grown_then a b c w y (AlongMoves r t (take i ms)) (IsEdge (At r (next_of t (get_or ms i d))) (get_or ms i d).weight (label (get_or ms i d).output [])) (AlongMoves r t (take i ms ++ get_or ms i d ∷ [])) f g
-    (λ n u z h. elim (Contains-push_cases (take i ms) (get_or ms i d) h.0 h.1) [
-      | inl k ↦ inl (h.0, k, h.2, h.3, h.4)
-      | inr k ↦ inr (h.2 ∙ ap (λ (b : TupleArc). At r (next_of t b)) (sym k), h.3 ∙ ap (λ (b : TupleArc). b.weight) (sym k), h.4 ∙ ap (λ (b : TupleArc). label b.output []) (sym k))
-    ])
-    (λ n u z h. (h.0, Contains-append_left (take i ms) (get_or ms i d ∷ []) h.0 h.1, h.2, h.3, h.4))
-    (λ n u z h. (get_or ms i d, Contains-push (take i ms) (get_or ms i d), h.0, h.1, h.2)) in
-    subst (λ xs. Grown a c w y (AlongMoves r t xs)) (sym more) whole
+module _ {S : Type 0} {G : S → S → Leading → Type 0} (growth : IsGrowth G) where
+  pub moves_more : (a b c : S) (r : ℕ) (t : Tuple) (ms : List TupleArc) (i : ℕ) (d : TupleArc) → i < length ms
+      → G a b (AlongMoves r t (take i ms)) → G b c (IsEdge (At r (next_of t (get_or ms i d))) (get_or ms i d).weight (label (get_or ms i d).output [])) → G a c (AlongMoves r t (take (i + 1) ms))
+  moves_more a b c r t ms i d l f g =
+      let more : take (i + 1) ms ≡ take i ms ++ get_or ms i d ∷ [] = take_more ms i d l in
+      let whole : G a c (AlongMoves r t (take i ms ++ get_or ms i d ∷ [])) = growth.joins a b c (AlongMoves r t (take i ms)) (IsEdge (At r (next_of t (get_or ms i d))) (get_or ms i d).weight (label (get_or ms i d).output [])) (AlongMoves r t (take i ms ++ get_or ms i d ∷ [])) f g
+      (λ n u z h. elim (Contains-push_cases (take i ms) (get_or ms i d) h.0 h.1) [
+        | inl k ↦ inl (h.0, k, h.2, h.3, h.4)
+        | inr k ↦ inr (h.2 ∙ ap (λ (b : TupleArc). At r (next_of t b)) (sym k), h.3 ∙ ap (λ (b : TupleArc). b.weight) (sym k), h.4 ∙ ap (λ (b : TupleArc). label b.output []) (sym k))
+      ])
+      (λ n u z h. (h.0, Contains-append_left (take i ms) (get_or ms i d ∷ []) h.0 h.1, h.2, h.3, h.4))
+      (λ n u z h. (get_or ms i d, Contains-push (take i ms) (get_or ms i d), h.0, h.1, h.2)) in
+      subst (λ xs. G a c (AlongMoves r t xs)) (sym more) whole
 
-pub arcs_more : (a b c : Search) (w : ℕ) (y : List ℕ) (g : Cascaded) (t : Tuple) (row : List Arc) (i : ℕ) (d : Arc) → i < length row
-    → Grown a b w y (AlongArcs g t (take i row)) → Grown b c w y (AlongArc g t (get_or row i d) (get_or row i d).input) → Grown a c w y (AlongArcs g t (take (i + 1) row))
-arcs_more a b c w y g t row i d l f h =
-    let more : take (i + 1) row ≡ take i row ++ get_or row i d ∷ [] = take_more row i d l in
-    let whole : Grown a c w y (AlongArcs g t (take i row ++ get_or row i d ∷ [])) = grown_then a b c w y (AlongArcs g t (take i row)) (AlongArc g t (get_or row i d) (get_or row i d).input) (AlongArcs g t (take i row ++ get_or row i d ∷ [])) f h
-    (λ n u z k. elim (Contains-push_cases (take i row) (get_or row i d) k.0 k.1) [
-      | inl j ↦ inl (k.0, j, k.2)
-      | inr j ↦ inr (subst (λ (a : Arc). AlongArc g t a a.input n u z) (sym j) k.2)
-    ])
-    (λ n u z k. (k.0, Contains-append_left (take i row) (get_or row i d ∷ []) k.0 k.1, k.2))
-    (λ n u z k. (get_or row i d, Contains-push (take i row) (get_or row i d), k)) in
-    subst (λ xs. Grown a c w y (AlongArcs g t xs)) (sym more) whole
+  pub arcs_more : (a b c : S) (g : Cascaded) (t : Tuple) (row : List Arc) (i : ℕ) (d : Arc) → i < length row
+      → G a b (AlongArcs g t (take i row)) → G b c (AlongArc g t (get_or row i d) (get_or row i d).input) → G a c (AlongArcs g t (take (i + 1) row))
+  arcs_more a b c g t row i d l f h =
+      let more : take (i + 1) row ≡ take i row ++ get_or row i d ∷ [] = take_more row i d l in
+      let whole : G a c (AlongArcs g t (take i row ++ get_or row i d ∷ [])) = growth.joins a b c (AlongArcs g t (take i row)) (AlongArc g t (get_or row i d) (get_or row i d).input) (AlongArcs g t (take i row ++ get_or row i d ∷ [])) f h
+      (λ n u z k. elim (Contains-push_cases (take i row) (get_or row i d) k.0 k.1) [
+        | inl j ↦ inl (k.0, j, k.2)
+        | inr j ↦ inr (subst (λ (a : Arc). AlongArc g t a a.input n u z) (sym j) k.2)
+      ])
+      (λ n u z k. (k.0, Contains-append_left (take i row) (get_or row i d ∷ []) k.0 k.1, k.2))
+      (λ n u z k. (get_or row i d, Contains-push (take i row) (get_or row i d), k)) in
+      subst (λ xs. G a c (AlongArcs g t xs)) (sym more) whole
 
--- the same moves in another order
-pub moves_as : (a b : Search) (w : ℕ) (y : List ℕ) (r : ℕ) (t : Tuple) (all ms : List TupleArc) → IsPermutation all ms → Grown a b w y (AlongMoves r t ms) → Grown a b w y (AlongMoves r t all)
-moves_as a b w y r t all ms moved g = grown_as a b w y (AlongMoves r t ms) (AlongMoves r t all) g (λ n u z. (
-  λ h. (h.0, Contains-permutation all ms h.0 moved h.1, h.2, h.3, h.4),
-  λ h. (h.0, Contains-permutation ms all h.0 (IsPermutation-sym all ms moved) h.1, h.2, h.3, h.4),
-))
+  -- the same moves in another order
+  pub moves_as : (a b : S) (r : ℕ) (t : Tuple) (all ms : List TupleArc) → IsPermutation all ms → G a b (AlongMoves r t ms) → G a b (AlongMoves r t all)
+  moves_as a b r t all ms moved g = growth.says a b (AlongMoves r t ms) (AlongMoves r t all) g (λ n u z. (
+    λ h. (h.0, Contains-permutation all ms h.0 moved h.1, h.2, h.3, h.4),
+    λ h. (h.0, Contains-permutation ms all h.0 (IsPermutation-sym all ms moved) h.1, h.2, h.3, h.4),
+  ))
 
 -- a filter's elements
 kept_from : {A : Type 0} (p : A → Bool) (xs : List A) (a : A) → Contains (filter p xs) a → Contains xs a × (p a ≡ true)
@@ -128,11 +128,11 @@ module _ (m : Machine) (c : Cascaded) (q : ℕ) (t : Tuple) where
   from_parts n u z (inr (inr h)) = subst (λ o. Steps m c (At q t) o u z) (sym h.node) (record { last = h.final; source = h.source; node = h.tuple; output = h.output })
 
   -- one after another they are all
-  pub steps_whole : (a b d e : Search) (w : ℕ) (y : List ℕ) → Grown a b w y Own → Grown b d w y (AlongArcs c t (get_or m.arcs q [])) → Grown d e w y (AtEnd c t (final_of m.finals q)) → Grown a e w y (Steps m c (At q t))
-  steps_whole a b d e w y f h k =
-      let later : Grown b e w y (λ n u z. AlongArcs c t (get_or m.arcs q []) n u z ⊎ AtEnd c t (final_of m.finals q) n u z) = grown_then b d e w y (AlongArcs c t (get_or m.arcs q [])) (AtEnd c t (final_of m.finals q)) (λ n u z. AlongArcs c t (get_or m.arcs q []) n u z ⊎ AtEnd c t (final_of m.finals q) n u z) h k (λ n u z e. e) (λ n u z e. inl e) (λ n u z e. inr e) in
-      let all : Grown a e w y Parts = grown_then a b e w y Own (λ n u z. AlongArcs c t (get_or m.arcs q []) n u z ⊎ AtEnd c t (final_of m.finals q) n u z) Parts f later (λ n u z e. e) (λ n u z e. inl e) (λ n u z e. inr e) in
-      grown_as a e w y Parts (Steps m c (At q t)) all (λ n u z. (to_parts n u z, from_parts n u z))
+  pub steps_whole : {S : Type 0} {G : S → S → Leading → Type 0} (growth : IsGrowth G) (a b d e : S) → G a b Own → G b d (AlongArcs c t (get_or m.arcs q [])) → G d e (AtEnd c t (final_of m.finals q)) → G a e (Steps m c (At q t))
+  steps_whole {S} {G} growth a b d e f h k =
+      let later : G b e (λ n u z. AlongArcs c t (get_or m.arcs q []) n u z ⊎ AtEnd c t (final_of m.finals q) n u z) = growth.joins b d e (AlongArcs c t (get_or m.arcs q [])) (AtEnd c t (final_of m.finals q)) (λ n u z. AlongArcs c t (get_or m.arcs q []) n u z ⊎ AtEnd c t (final_of m.finals q) n u z) h k (λ n u z e. e) (λ n u z e. inl e) (λ n u z e. inr e) in
+      let all : G a e Parts = growth.joins a b e Own (λ n u z. AlongArcs c t (get_or m.arcs q []) n u z ⊎ AtEnd c t (final_of m.finals q) n u z) Parts f later (λ n u z e. e) (λ n u z e. inl e) (λ n u z e. inr e) in
+      growth.says a e Parts (Steps m c (At q t)) all (λ n u z. (to_parts n u z, from_parts n u z))
 
 pub along_zero : (c : Cascaded) (t : Tuple) (a : Arc) (i : ℕ) → i ≡ 0 → (n : Node) (u : ℕ) (z : List ℕ) → AlongArc c t a i n u z ↔ IsEdge (At a.next t) 0 [] n u z
 along_zero c t a i e n u z = (λ h. subst (λ j. AlongArc c t a j n u z) e h, λ h. subst (λ j. AlongArc c t a j n u z) (sym e) h)

@@ -4,6 +4,7 @@ use Rattle.least_path.specs.declared.node.Node.{Node}
 use Rattle.least_path.specs.declared.reaching.Search.{Search}
 use Rattle.least_path.specs.Keeps.{Kept, Grown}
 use Rattle.least_path.specs.Growths.{Leading}
+use Rattle.least_path.proofs.Growing.{IsGrowth}
 use Rattle.least_path.proofs.Letters.{grows_same, grows_trans}
 
 pub grown_none : (s : Search) (w : ℕ) (y : List ℕ) (D : Leading) → Kept s → ((n : Node) (u : ℕ) (z : List ℕ) → D n u z → ⊥) → Grown s s w y D
@@ -62,3 +63,6 @@ grown_as a b w y D E f same = record {
 -- the same output by other words
 pub at_text : (b c : Search) (w : ℕ) (y y' : List ℕ) {D : Leading} → y' ≡ y → Grown b c w y' D → Grown b c w y D
 at_text b c w y y' {D} e g = subst (λ t. Grown b c w t D) e g
+
+pub grown_growth : (w : ℕ) (y : List ℕ) → IsGrowth (λ a b D. Grown a b w y D)
+grown_growth w y = record { joins = λ a b c D1 D2 D. grown_then a b c w y D1 D2 D; says = λ a b D E. grown_as a b w y D E }

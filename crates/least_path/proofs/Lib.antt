@@ -4,6 +4,7 @@ pub mod Heaps
 pub mod Products
 pub mod Noting
 pub mod Waiters
+pub mod Growing
 pub mod Joining
 pub mod Along
 pub mod Taking
@@ -11,3 +12,6 @@ pub mod Stops
 pub mod Turns
 pub mod Rounds
 pub mod Wholes
+pub mod Arriving
+pub mod Meeting
+pub mod Corrections

@@ -153,7 +153,7 @@ module _ (m : Machine) (c : Cascaded) (wf : WellFormed m) (closed : IsClosed c) 
   follows_known q zero r h f = subst (λ k. k < length m.arcs) (sym f) h
   follows_known q (suc i) r h f = subst (λ k. k < length m.arcs) (sym f.4) (wf.arcs q f.0 f.1 f.2).next
 
-  step_fits : (q : ℕ) (t : Tuple) → Known m c (At q t) → (n : Node) (u : ℕ) (z : List ℕ) → Steps m c (At q t) n u z → Fitting m c n u z
+  pub step_fits : (q : ℕ) (t : Tuple) → Known m c (At q t) → (n : Node) (u : ℕ) (z : List ℕ) → Steps m c (At q t) n u z → Fitting m c n u z
   step_fits q t h End u z e = record { known = tt; light = closed.ends t u h.1 e.node; short = subst (λ y. length y ≤ 1) (sym e.output) (omega arith) }
   step_fits q t h (At r v) u z (inl e) = record {
     known = (subst (λ k. k < length m.arcs) (sym e.state) (wf.arcs q e.place e.arc e.is).next, subst (IsOf c) (sym e.node) h.1);

@@ -1,5 +1,5 @@
 -- A node comes to wait.
-use Rattle.std.proofs.Common.{◌≡◌, ◌≢◌, ◌<◌, ◌≤◌, ◌⊎◌, ◌↔◌, ℕ, ◌+◌, List, [], ◌∷◌, ◌++◌, Some, slice_get, get_or, set, length, map, arith, refl, sym, ap, ◌∙◌, subst, inl, inr, length-set}
+use Rattle.std.proofs.Common.{◌≡◌, ◌≢◌, ◌<◌, ◌≤◌, ◌⊎◌, ◌↔◌, ℕ, ◌+◌, List, [], ◌∷◌, ◌++◌, Some, slice_get, get_or, set, length, map, arith, refl, sym, ap, ◌∙◌, subst, inl, inr, length-set, length-append}
 use Rattle.std.specs.Prelude.{All, Contains}
 use Rattle.std.specs.List.Sorted.{IsPermutation}
 use Rattle.std.proofs.lemmas.Bool.{cases_lt, cases_eq}
@@ -11,6 +11,7 @@ use Rattle.weighted_relations.specs.Least.{Below}
 use Rattle.weighted_relations.specs.Order.{below_refl}
 use Rattle.weighted_relations.specs.SearchRuns.{Open}
 use Rattle.weighted_relations.specs.SearchRunLaws.{contains_first, contains_cases, contains_later}
+use Rattle.state_table.specs.Numbers.{Distinct}
 use Rattle.least_path.specs.declared.node.Node.{Node}
 use Rattle.least_path.specs.declared.node.Node.TheVariants.{End}
 use Rattle.least_path.specs.declared.queue.Entry.{Entry}
@@ -19,10 +20,11 @@ use Rattle.least_path.specs.declared.standings.Standing.TheVariants.{Unmet, Met,
 use Rattle.least_path.specs.declared.reaching.Search.{Search}
 use Rattle.least_path.specs.Texts.{text_of, Grows}
 use Rattle.least_path.specs.Waiting.{Before, Fits, IsHeap, at_place}
-use Rattle.least_path.specs.Standings.{Noted, Passes, standing_of, settled_count}
+use Rattle.least_path.specs.Notes.{Noted}
+use Rattle.least_path.specs.Standings.{Passes, standing_of, settled_count}
 use Rattle.least_path.specs.Keeps.{open_of, waits, IsSettled, Kept, Grown, IsEdge}
 use Rattle.least_path.proofs.Letters.{grows_text, grows_length}
-use Rattle.least_path.proofs.Noting.{met_within, count_set, set_own, set_other, met_not_settled}
+use Rattle.least_path.proofs.Noting.{noted_same, noted_count, met_within, count_set, set_own, set_other, met_not_settled}
 
 pub contains_map : {X Y : Type 0} (f : X → Y) (xs : List X) (x : X) → Contains xs x → Contains (map f xs) (f x)
 contains_map f xs x h = (h.0, (let e : length (map f xs) ≡ length xs = length-map xs f in omega (arith, e, h.1)), get_or-map f xs h.0 x (f x) h.1 ∙ ap f h.2)
@@ -48,8 +50,15 @@ heap_grow all all' g xs fits heap p k c l =
 pub all_fits_grow : (all all' : List (List ℕ)) → Grows all all' → (xs : List Entry) → All (Fits all) xs → All (Fits all') xs
 all_fits_grow all all' g xs h = All-weaker (Fits all) (Fits all') (fits_grow all all' g) xs h
 
+-- what an entry's output fits
+pub entry_fits : (old new : List (List ℕ)) (from length' o : ℕ) (z : List ℕ) (e : Entry) → o < length new → text_of new o ≡ text_of old from ++ z → length' ≡ length (text_of old from) + length z → e.output ≡ o → e.length ≡ length' → Fits new e
+entry_fits old new from n o z e within text len output is = record {
+  output = subst (λ k. k < length new) (sym output) within;
+  length = is ∙ len ∙ sym (length-append (text_of old from) z) ∙ ap length (sym text) ∙ ap (λ k. length (text_of new k)) (sym output);
+}
+
 -- a node is settled where its number stands so
-settled_by : (old new : Search) (n : Node) (i : ℕ) (mid : List Standing) → Noted old.nodes new.nodes old.standings.items mid n i → Kept old
+settled_by : (old new : Search) (n : Node) (i : ℕ) (mid : List Standing) → Noted Unmet old.nodes new.nodes old.standings.items mid n i → Kept old
     → ((k : ℕ) → (standing_of new.standings.items k ≡ Settled) ↔ (standing_of old.standings.items k ≡ Settled)) → (m : Node) → IsSettled new m ↔ IsSettled old m
 settled_by old new n i mid noted kept same m = (
   λ h.
@@ -60,7 +69,7 @@ settled_by old new n i mid noted kept same m = (
   λ h. (h.0, noted.stays h.0 m h.1, (same h.0).1 h.2),
 )
 
-module _ (old new : Search) (n : Node) (i : ℕ) (mid : List Standing) (noted : Noted old.nodes new.nodes old.standings.items mid n i) (kept : Kept old) (grows : Grows old.outputs new.outputs) where
+module _ (old new : Search) (n : Node) (i : ℕ) (mid : List Standing) (noted : Noted Unmet old.nodes new.nodes old.standings.items mid n i) (apart : Distinct new.nodes) (kept : Kept old) (grows : Grows old.outputs new.outputs) where
   open_same : (e : Entry) → e.node < length old.nodes → Fits old.outputs e → open_of new.nodes new.outputs e ≡ open_of old.nodes old.outputs e
   open_same e l f =
       let there : slice_get new.nodes e.node ≡ Some (get_or old.nodes e.node End) = noted.stays e.node (get_or old.nodes e.node End) (slice_get-get_or old.nodes e.node End l) in
@@ -95,7 +104,7 @@ module _ (old new : Search) (n : Node) (i : ℕ) (mid : List Standing) (noted : 
   Passed w y = (standing_of mid i ≡ Settled) ⊎ ((b : Entry) × (standing_of mid i ≡ Met b) × Below b.weight (text_of new.outputs b.output) w y)
 
   pub best_fits : (b : Entry) → standing_of mid i ≡ Met b → Fits new.outputs b
-  best_fits b f = fits_grow old.outputs new.outputs grows b (All-contains (Fits old.outputs) old.queue.items b kept.fits (kept.best i b (sym (noted.same i) ∙ f)).1)
+  best_fits b f = fits_grow old.outputs new.outputs grows b (All-contains (Fits old.outputs) old.queue.items b kept.fits (kept.best i b (sym (noted_same noted i) ∙ f)).1)
 
   pub passed_early : (weight len : ℕ) (y : List ℕ) → len ≡ length y → Passes (standing_of mid i) weight len → Passed weight y
   passed_early weight len y e p = go (standing_of mid i) refl p where
@@ -109,11 +118,11 @@ module _ (old new : Search) (n : Node) (i : ℕ) (mid : List Standing) (noted : 
   pub grown_passed : new.standings.items ≡ mid → new.queue.items ≡ old.queue.items → (w : ℕ) (y : List ℕ) (u : ℕ) (z : List ℕ) → Passed (w + u) (y ++ z) → Grown old new w y (IsEdge n u z)
   grown_passed stand queue w y u z passed =
       let same_waits : waits new ≡ waits old = ap (map (open_of new.nodes new.outputs)) queue ∙ waits_same in
-      let same : (k : ℕ) → standing_of new.standings.items k ≡ standing_of old.standings.items k = λ k. ap (λ xs. standing_of xs k) stand ∙ noted.same k in
+      let same : (k : ℕ) → standing_of new.standings.items k ≡ standing_of old.standings.items k = λ k. ap (λ xs. standing_of xs k) stand ∙ noted_same noted k in
       let settled : (m : Node) → IsSettled new m ↔ IsSettled old m = settled_by old new n i mid noted kept (λ k. (λ h. sym (same k) ∙ h, λ h. same k ∙ h)) in
       record {
         kept = record {
-          apart = noted.apart;
+          apart = apart;
           even = ap length stand ∙ noted.even;
           places = subst (All (λ e. e.node < length new.nodes)) (sym queue) places_grow;
           fits = subst (All (Fits new.outputs)) (sym queue) (all_fits_grow old.outputs new.outputs grows old.queue.items kept.fits);
@@ -122,7 +131,7 @@ module _ (old new : Search) (n : Node) (i : ℕ) (mid : List Standing) (noted : 
         };
         texts = grows;
         settled = settled;
-        count = ap settled_count stand ∙ noted.count;
+        count = ap settled_count stand ∙ noted_count noted;
         nodes = noted.stays;
         new_nodes = new_nodes u z;
         stays = λ d h. subst (λ xs. Contains xs d) (sym same_waits) h;
@@ -130,7 +139,7 @@ module _ (old new : Search) (n : Node) (i : ℕ) (mid : List Standing) (noted : 
           | inl k ↦ inl (i, subst (λ t. slice_get new.nodes i ≡ Some t) (sym e.0) noted.number, ap (λ xs. standing_of xs i) stand ∙ k)
           | inr k ↦
               let b = k.0 in
-              let o = kept.best i k.0 (sym (noted.same i) ∙ k.1) in
+              let o = kept.best i k.0 (sym (noted_same noted i) ∙ k.1) in
               let there : Contains (waits new) (open_of new.nodes new.outputs k.0) = contains_map (open_of new.nodes new.outputs) new.queue.items k.0 (subst (λ xs. Contains xs k.0) (sym queue) o.1) in
               let node : get_or new.nodes k.0.node End ≡ m = own_node k.0 o.0 ∙ sym e.0 in
               let below : Below k.0.weight (text_of new.outputs k.0.output) (w + v) (y ++ x) = subst (λ t. Below k.0.weight (text_of new.outputs k.0.output) (w + t) (y ++ x)) (sym e.1) (subst (λ t. Below k.0.weight (text_of new.outputs k.0.output) (w + u) (y ++ t)) (sym e.2) k.2) in
@@ -148,13 +157,13 @@ module _ (old new : Search) (n : Node) (i : ℕ) (mid : List Standing) (noted : 
     stands_own = ap (λ xs. standing_of xs i) stand ∙ set_own mid i (Met e) within
 
     stands_other : (k : ℕ) → k ≢ i → standing_of new.standings.items k ≡ standing_of old.standings.items k
-    stands_other k ne = ap (λ xs. standing_of xs k) stand ∙ set_other mid i k (Met e) ne ∙ noted.same k
+    stands_other k ne = ap (λ xs. standing_of xs k) stand ∙ set_other mid i k (Met e) ne ∙ noted_same noted k
 
     settled_same : (k : ℕ) → (standing_of new.standings.items k ≡ Settled) ↔ (standing_of old.standings.items k ≡ Settled)
     settled_same k = elim (cases_eq k i) [
       | inl q ↦ (
         λ h. absurd (met_not_settled e (sym stands_own ∙ ap (standing_of new.standings.items) (sym q) ∙ h)),
-        λ h. absurd (unsettled (noted.same i ∙ ap (standing_of old.standings.items) (sym q) ∙ h)),
+        λ h. absurd (unsettled (noted_same noted i ∙ ap (standing_of old.standings.items) (sym q) ∙ h)),
       )
       | inr q ↦ (λ h. sym (stands_other k q) ∙ h, λ h. stands_other k q ∙ h)
     ]
@@ -172,7 +181,7 @@ module _ (old new : Search) (n : Node) (i : ℕ) (mid : List Standing) (noted : 
         let in_new : (b : Entry) → Contains (e ∷ old.queue.items) b → Contains new.queue.items b = λ b h. Contains-permutation (e ∷ old.queue.items) new.queue.items b moves h in
         record {
           kept = record {
-            apart = noted.apart;
+            apart = apart;
             even = (let l : length new.standings.items ≡ length (set mid i (Met e)) = ap length stand in let k = length-set mid i (Met e) in let v = noted.even in omega arith);
             places = All-permutation (λ (e : Entry). e.node < length new.nodes) (e ∷ old.queue.items) new.queue.items moves (All-cons (λ (e : Entry). e.node < length new.nodes) e old.queue.items place places_grow);
             fits = All-permutation (Fits new.outputs) (e ∷ old.queue.items) new.queue.items moves (All-cons (Fits new.outputs) e old.queue.items fits (all_fits_grow old.outputs new.outputs grows old.queue.items kept.fits));
@@ -187,7 +196,7 @@ module _ (old new : Search) (n : Node) (i : ℕ) (mid : List Standing) (noted : 
           };
           texts = grows;
           settled = settled_by old new n i mid noted kept settled_same;
-          count = (let a : settled_count new.standings.items ≡ settled_count mid + 0 = ap settled_count stand ∙ count_set mid i (Met e) within unsettled in let b = noted.count in omega arith);
+          count = (let a : settled_count new.standings.items ≡ settled_count mid + 0 = ap settled_count stand ∙ count_set mid i (Met e) within unsettled in let b = noted_count noted in omega arith);
           nodes = noted.stays;
           new_nodes = new_nodes u z;
           stays = λ d h. Contains-permutation (record { node = n; weight = w + u; output = y ++ z } ∷ waits old) (waits new) d moved' (contains_later (record { node = n; weight = w + u; output = y ++ z }) (waits old) d h);

@@ -26,7 +26,7 @@ use Rattle.least_path.proofs.Rounds.{Runs, Known, most, count_few, runs_start, r
 abbrev pub all_most : Machine → List Cascaded → ℕ
 all_most m cascades = sum_by (λ c. most m c (tuples_are_few c)) cascades
 
-byte_small : (n : ℕ) → IsByte n → n < 256
+pub byte_small : (n : ℕ) → IsByte n → n < 256
 byte_small n h = let k = h.1 in omega arith
 
 module _ (m : Machine) (cascades : List Cascaded) (start : Tuple) (sounds : All IsSound cascades) (wf : WellFormed m) (laws : (c : Cascaded) → IsSound c → ReadsItsParts c) where

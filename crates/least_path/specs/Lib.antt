@@ -4,6 +4,9 @@ pub mod Waiting
 pub mod Mixing
 pub mod SameNodes
 pub mod Products
+pub mod Notes
 pub mod Standings
 pub mod Keeps
 pub mod Growths
+pub mod Marks
+pub mod Relaxing

@@ -24,7 +24,7 @@ impl Hash for Node {
 }
 
 /// The words of a node mixed into one, which is all that is hashed.
-fn mix_node(node: &Node) -> u64
+pub(crate) fn mix_node(node: &Node) -> u64
     ensures { result ≡ mix_of node.now }
 {
     match node {

@@ -55,7 +55,7 @@ impl Search {
         requires short { from.now.length + 1 < 2 ^ 64 }
         ensures { OnOk result (Grown self.old self.new from.now.weight (text_of self.old.outputs from.now.output) (IsEdge node weight (written output []))) }
     {
-        let number = note(&mut self.nodes, &mut self.standings, node)?;
+        let number = note(&mut self.nodes, &mut self.standings, node, Standing::Unmet)?;
         let weight = from.weight + weight as u128;
         let length = longer(from.length, output);
         if is_passed(&self.standings[number], weight, length) {
@@ -117,7 +117,7 @@ impl Search {
 }
 
 /// The length with a label more.
-fn longer(from: usize, label: u16) -> usize
+pub(crate) fn longer(from: usize, label: u16) -> usize
     requires { from + 1 < 2 ^ 64 }
     ensures { result ≡ from + length (written label []) }
 {

@@ -5,6 +5,7 @@ ghost use Rattle.least_path.specs.Starting.{IsLeastFrom, IsStart, StopsAfter, Wr
 
 use crate::answers::{Least, bytes_of};
 use crate::expanding::expand;
+use crate::listing::least_by_lists;
 use crate::node::Node;
 use crate::queue::Entry;
 use crate::reaching::Search;
@@ -15,10 +16,34 @@ use std::alloc::{AllocError, Global};
 /// The least reading of the cascade that starts at the tuple, at an input of the source: by weight, then by the length of its output, then by
 /// its bytes. None exactly where there is none. What the source writes and weighs does not count.
 ///
+/// It searches by lists, which is fast on a line. Where that search gives up, which costs a constant factor at most, the one by the queue
+/// answers.
+pub fn least<X: Expander>(
+    alloc: Global,
+    source: &Fst,
+    x: &mut X,
+    start: &Tuple,
+) -> Result<Option<Least>, AllocError>
+    requires ready { X.is_ready x.old }
+    requires start { IsStart (X.cascades x.old) start.now }
+    requires bytes { WritesBytes (X.cascades x.old) start.now }
+    ensures least { IfOk result (λ answer. IsLeastFrom source.now (X.cascades x.old) start.now (option_map (λ l. (l.weight, l.output.items)) answer)) }
+    ensures ready { X.is_ready x.new }
+    ensures on { OnOk result (X.goes_on x.old x.new) }
+    ensures up { OnErr result (StopsAfter X.goes_on X.gives_up x.old x.new) }
+{
+    match least_by_lists(alloc, source, x, start)? {
+        Some(answer) => Ok(answer),
+        None => least_by_queue(alloc, source, x, start),
+    }
+}
+
+/// The same by an ordered queue alone, whatever the source.
+///
 /// After Dijkstra: the first entry that waits is the least way to its node, unless this is settled. It ends, since each round settles one
 /// node more, and a node is a state of the source with a tuple. Its sums fit `u128`: each settled node adds less than 2^56 to a weight, and
 /// fewer than 2^64 are settled.
-pub fn least<X: Expander>(
+pub fn least_by_queue<X: Expander>(
     alloc: Global,
     source: &Fst,
     x: &mut X,

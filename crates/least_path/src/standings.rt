@@ -1,7 +1,9 @@
 // How the nodes of a search stand.
 
 ghost use Rattle.std.specs.Prelude.{◌≡◌, ◌↔◌, IfOk, IsTrue, length};
-ghost use Rattle.least_path.specs.Standings.{Noted, Passes};
+ghost use Rattle.state_table.specs.Numbers.{Distinct};
+ghost use Rattle.least_path.specs.Notes.{Noted};
+ghost use Rattle.least_path.specs.Standings.{Passes};
 ghost use Rattle.least_path.specs.declared.standings.Standing.TheVariants.{Met, Settled};
 ghost use Rattle.least_path.specs.Waiting.{Before, Fits};
 
@@ -19,18 +21,20 @@ pub(crate) enum Standing {
     Settled,
 }
 
-/// The number of a node, which is unmet where it is new.
-pub(crate) fn note(
+/// The number of a node. What is kept of a new one is `unmet`.
+pub(crate) fn note<T: Copy>(
     nodes: &mut StateTable<Node>,
-    standings: &mut Vec<Standing>,
+    marks: &mut Vec<T>,
     node: Node,
+    unmet: T,
 ) -> Result<usize, AllocError>
-    requires { length standings.old.items ≡ length nodes.old }
-    ensures { IfOk result (λ i. Noted nodes.old nodes.new standings.old.items standings.new.items node i) }
+    requires { length marks.old.items ≡ length nodes.old }
+    ensures noted { IfOk result (λ i. Noted unmet nodes.old nodes.new marks.old.items marks.new.items node i) }
+    ensures distinct { Distinct nodes.new }
 {
     let number = nodes.number(node)?;
-    if number == standings.len() {
-        standings.push(Standing::Unmet)?;
+    if number == marks.len() {
+        marks.push(unmet)?;
     }
     Ok(number)
 }

@@ -8,7 +8,7 @@ ghost use Rattle.least_path.specs.Starting.{WritesBytes};
 
 use crate::{Reading, least_of};
 use fst_core::{Fst, concat, cross, star, text, union, weighted};
-use least_path::{Least, least};
+use least_path::{Least, least, least_by_queue};
 use state_tuples::{Cascade, Private};
 use std::alloc::{AllocError, Global};
 use std::process::Abort;
@@ -16,6 +16,7 @@ use std::test::Fail;
 
 mod agreement;
 mod giving_up;
+mod often;
 
 /// The labels of a line, without its bytes 0.
 fn labels_of(alloc: Global, line: &[u8]) -> Result<Vec<u16>, AllocError>
@@ -141,7 +142,19 @@ fn least_at(alloc: Global, source: &Fst, cascade: &Cascade) -> Result<Option<Lea
     least(alloc, source, &mut x, &cascade.start())
 }
 
-/// Compares the answers of both searches to a case. A line with a byte 0 is no source.
+/// The same by the queue alone.
+fn least_by_queue_at(
+    alloc: Global,
+    source: &Fst,
+    cascade: &Cascade,
+) -> Result<Option<Least>, AllocError>
+    requires { WritesBytes (cascade.now ∷ []) (first_tuple cascade.now) }
+{
+    let mut x = Private::new(alloc, cascade);
+    least_by_queue(alloc, source, &mut x, &cascade.start())
+}
+
+/// Compares the answers of all searches to a case. A line with a byte 0 is no source.
 fn check_case(rt: &impl Abort, alloc: Global, case: &Case) -> Result<(), Fail> {
     let (heads, stars, tails, line, want) = *case;
     let rule = rule_of(alloc, heads, stars, tails)?;
@@ -151,8 +164,13 @@ fn check_case(rt: &impl Abort, alloc: Global, case: &Case) -> Result<(), Fail> {
     assert_eq!(rt; plainly, as_reading(alloc, &want)?, "at {line:?}");
     if !line.as_bytes().contains(&0) {
         let cascade = cascade_of(alloc, rule)?;
-        let answer = least_at(alloc, &plain(alloc, line.as_bytes())?, &cascade)?;
-        assert_eq!(rt; answer, want, "at {line:?}");
+        let source = plain(alloc, line.as_bytes())?;
+        assert_eq!(rt; least_at(alloc, &source, &cascade)?, want, "at {line:?}");
+        assert_eq!(rt;
+            least_by_queue_at(alloc, &source, &cascade)?,
+            want,
+            "at {line:?}"
+        );
     }
     Ok(())
 }
@@ -244,5 +262,6 @@ fn reads_a_long_line(rt: HostRuntime) -> Result<(), Fail> {
     let source = plain(alloc, &line)?;
     let cascade = cascade_of(alloc, rule)?;
     assert!(rt; least_at(alloc, &source, &cascade)? == want);
+    assert!(rt; least_by_queue_at(alloc, &source, &cascade)? == want);
     Ok(())
 }

@@ -1,8 +1,8 @@
-// Random small transducers, and the least readings that both searches find.
+// Random small transducers, and the least readings that all searches find.
 
 ghost use Rattle.std.specs.Prelude.{◌<◌};
 
-use super::{as_reading, cascade_of, has_no_mark, least_at, plain};
+use super::{as_reading, cascade_of, has_no_mark, least_at, least_by_queue_at, plain};
 use crate::{Reading, least_of};
 use fst_core::{Arc, Fst, union};
 use std::alloc::{AllocError, Global};
@@ -98,7 +98,7 @@ fn lesser(a: Option<Reading>, b: Option<Reading>) -> Option<Reading> {
     }
 }
 
-/// Compares the search over tuples with the plain one at two lines. Whether they have a reading.
+/// Compares the searches over tuples with the plain one at two lines. Whether they have a reading.
 fn agree(
     rt: &impl Abort,
     alloc: Global,
@@ -116,11 +116,13 @@ fn agree(
     let answer = least_at(alloc, &source, &cascade)?;
     let found = as_reading(alloc, &answer)?;
     assert_eq!(rt; found, want, "at {first:?} and {second:?}");
+    let queued = least_by_queue_at(alloc, &source, &cascade)?;
+    assert!(rt; queued == answer, "at {first:?} and {second:?}");
     Ok(answer.is_some())
 }
 
 #[test]
-fn both_searches_agree(rt: HostRuntime) -> Result<(), Fail> {
+fn all_searches_agree(rt: HostRuntime) -> Result<(), Fail> {
     let alloc = rt.alloc();
     let mut numbers = Numbers { state: 20_261_201 };
     let mut found: u32 = 0;

@@ -15,9 +15,9 @@ use std::test::Fail;
 
 /// Gives up once, at the call after so many, and no more after it.
 #[derive(Drop)]
-struct GivingUp<'a> {
-    inner: Private<'a>,
-    calls: Option<usize>,
+pub(super) struct GivingUp<'a> {
+    pub(super) inner: Private<'a>,
+    pub(super) calls: Option<usize>,
 }
 
 impl<'a> Model for GivingUp<'a> {

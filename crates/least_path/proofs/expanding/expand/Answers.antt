@@ -13,7 +13,7 @@ use Rattle.least_path.specs.Growths.{Leading, AlongArc, AlongArcs, AtEnd}
 use Rattle.least_path.specs.Keeps.{Grown}
 use Rattle.least_path.proofs.Letters.{grows_text, grows_trans}
 use Rattle.least_path.proofs.Waiters.{fits_grow}
-use Rattle.least_path.proofs.Joining.{at_text}
+use Rattle.least_path.proofs.Joining.{grown_growth, at_text}
 use Rattle.least_path.proofs.Along.{moves_as, arcs_more, steps_whole}
 use Rattle.least_path.proofs.Stops.{stops_later}
 use Rattle.least_path.proofs.expanding.expand.Goals as goal
@@ -49,7 +49,7 @@ loop-arc-preserved g c =
     record {
       kept = one.kept;
       texts = grows_trans c.reach_all.new.self.outputs c.loop-arc.search.outputs c.follow.new.search.outputs c.loop-arc.invariant.texts one.texts;
-      grown = λ e k h. arcs_more a b d from.weight (text_of c.reach_all.new.self.outputs c.args.from.now.output) e c.args.tuple.now row i (record { input = 0; output = 0; weight = 0; next = 0 }) c.loop-arc-test.true (c.loop-arc.invariant.grown e k h)
+      grown = λ e k h. arcs_more (grown_growth from.weight (text_of c.reach_all.new.self.outputs c.args.from.now.output)) a b d e c.args.tuple.now row i (record { input = 0; output = 0; weight = 0; next = 0 }) c.loop-arc-test.true (c.loop-arc.invariant.grown e k h)
           (from_start a b d from.weight from.output (AlongArc e c.args.tuple.now arc arc.input) c.loop-arc.invariant.texts fits.output (c.in_ok-follow.ensures.grown e (subst (λ cs. Contains cs e) (sym same) k) h));
       ready = c.follow.ensures.ready;
       known = subst (λ cs. IsKnown cs c.args.tuple.now) (sym after) c.loop-arc.invariant.known;
@@ -71,8 +71,8 @@ returns-clause-grown g c = λ e k h.
     let arcs : Grown b d from.weight (text_of c.reach_all.new.self.outputs c.args.from.now.output) (AlongArcs e t (get_or c.args.source.now.arcs c.args.state [])) = subst (λ row. Grown c.reach_all.new.self c.loop-arc.search c.args.from.now.weight (text_of c.reach_all.new.self.outputs c.args.from.now.output) (AlongArcs e c.args.tuple.now row)) whole (c.loop-arc.invariant.grown e k h) in
     let end : Grown d last from.weight (text_of c.loop-arc.search.outputs c.args.from.now.output) (AtEnd e t (final_of c.args.source.now.finals c.args.state)) = subst (λ f. Grown c.loop-arc.search c.finish.new.search c.args.from.now.weight (text_of c.loop-arc.search.outputs c.args.from.now.output) (AtEnd e c.args.tuple.now f)) c.final_of.ensures.value (c.in_ok-finish.ensures.grown e (subst (λ cs. Contains cs e) (sym same) k) h) in
     let texts = grows_trans c.args.search.now.outputs c.reach_all.new.self.outputs c.loop-arc.search.outputs c.in_ok-reach_all.ensures.texts c.loop-arc.invariant.texts in
-    steps_whole c.args.source.now e c.args.state t a b d last from.weight y
-    (moves_as a b from.weight y c.args.state t (moves_on e c.args.tuple.now 0) c.deref.result.now moved c.in_ok-reach_all.ensures)
+    steps_whole c.args.source.now e c.args.state t (grown_growth from.weight y) a b d last
+    (moves_as (grown_growth from.weight y) a b c.args.state t (moves_on e c.args.tuple.now 0) c.deref.result.now moved c.in_ok-reach_all.ensures)
     (from_start a b d from.weight from.output (AlongArcs e t (get_or c.args.source.now.arcs c.args.state [])) c.in_ok-reach_all.ensures.texts c.requires.from.output arcs)
     (from_start a d last from.weight from.output (AtEnd e t (final_of c.args.source.now.finals c.args.state)) texts c.requires.from.output end)
 

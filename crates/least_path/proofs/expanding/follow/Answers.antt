@@ -5,7 +5,7 @@ use Rattle.least_path.specs.declared.node.Node.TheVariants.{At}
 use Rattle.least_path.specs.Texts.{text_of}
 use Rattle.least_path.specs.Keeps.{IsEdge}
 use Rattle.least_path.specs.Growths.{AlongArc, AlongMoves}
-use Rattle.least_path.proofs.Joining.{grown_as}
+use Rattle.least_path.proofs.Joining.{grown_as, grown_growth}
 use Rattle.least_path.proofs.Along.{moves_as, along_zero, along_some}
 use Rattle.least_path.proofs.expanding.follow.Goals as goal
 
@@ -21,4 +21,4 @@ returns-clause-grown g c = λ d k h.
     let t = c.args.tuple.now in
     let all = moves_on d c.args.tuple.now c.args.arc.now.input in
     let moved : IsPermutation all c.deref.result.now = subst (IsPermutation (moves_on d c.args.tuple.now c.args.arc.now.input)) (sym c.deref.ensures.value) (c.in_ok-arcs_on.ensures.arcs d k h).same in
-    grown_as a b w y (AlongMoves c.args.arc.now.next t all) (AlongArc d t c.args.arc.now c.args.arc.now.input) (moves_as a b w y c.args.arc.now.next t all c.deref.result.now moved c.in_ok-reach_all.ensures) (along_some d t c.args.arc.now c.args.arc.now.input c.if-arc-eq0.false)
+    grown_as a b w y (AlongMoves c.args.arc.now.next t all) (AlongArc d t c.args.arc.now c.args.arc.now.input) (moves_as (grown_growth w y) a b c.args.arc.now.next t all c.deref.result.now moved c.in_ok-reach_all.ensures) (along_some d t c.args.arc.now c.args.arc.now.input c.if-arc-eq0.false)

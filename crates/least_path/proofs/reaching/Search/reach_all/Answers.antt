@@ -3,7 +3,7 @@ use Rattle.least_path.specs.Texts.{text_of}
 use Rattle.least_path.specs.Growths.{AlongMoves}
 use Rattle.least_path.proofs.Letters.{grows_text}
 use Rattle.least_path.proofs.Waiters.{fits_grow}
-use Rattle.least_path.proofs.Joining.{grown_none, at_text}
+use Rattle.least_path.proofs.Joining.{grown_none, grown_growth, at_text}
 use Rattle.least_path.proofs.Along.{moves_more}
 use Rattle.least_path.proofs.reaching.Search.reach_all.Goals as goal
 
@@ -16,5 +16,5 @@ reach-requires c = record { kept = c.loop-a.invariant.kept; from = fits_grow c.a
 pub loop-a-preserved : goal.loop-a-preserved
 loop-a-preserved c =
     let same : text_of c.loop-a.self.outputs c.args.from.now.output ≡ text_of c.args.self.now.outputs c.args.from.now.output = grows_text c.args.self.now.outputs c.loop-a.self.outputs c.loop-a.invariant.texts c.args.from.now.output c.requires.from.output in
-    moves_more c.args.self.now c.loop-a.self c.reach.new.self c.args.from.now.weight (text_of c.args.self.now.outputs c.args.from.now.output) c.args.state c.args.tuple.now c.args.moves.now c.loop-a.a-index (record { input = 0; output = 0; weight = 0; filters = 0; states = [] }) c.loop-a-test.true c.loop-a.invariant
+    moves_more (grown_growth c.args.from.now.weight (text_of c.args.self.now.outputs c.args.from.now.output)) c.args.self.now c.loop-a.self c.reach.new.self c.args.state c.args.tuple.now c.args.moves.now c.loop-a.a-index (record { input = 0; output = 0; weight = 0; filters = 0; states = [] }) c.loop-a-test.true c.loop-a.invariant
     (at_text c.loop-a.self c.reach.new.self c.args.from.now.weight (text_of c.args.self.now.outputs c.args.from.now.output) (text_of c.loop-a.self.outputs c.args.from.now.output) same c.in_ok-reach.ensures)

@@ -5,7 +5,7 @@ use Rattle.least_path.specs.Standings.{settled_count}
 use Rattle.least_path.specs.Starting.{StartsAt}
 use Rattle.least_path.proofs.Rounds.{Runs}
 use Rattle.least_path.proofs.Wholes.{all_most}
-use Rattle.least_path.proofs.searching.least.Given as goal
+use Rattle.least_path.proofs.searching.least_by_queue.Given as goal
 
 abbrev pub invariant-loop-entry : goal.invariant-loop-entry
 invariant-loop-entry g l = record {

@@ -10,7 +10,7 @@ use Rattle.least_path.specs.Keeps.{Grown, GrownFrom, IsEdge}
 use Rattle.least_path.proofs.Stops.{stops_later}
 use Rattle.least_path.proofs.Turns.{taken_within, taken_at}
 use Rattle.least_path.proofs.Wholes.{all_start, all_none, all_found, all_bytes, all_known_tuple, all_known_state, all_count, all_light, all_short, all_more, all_smaller}
-use Rattle.least_path.proofs.searching.least.Goals as goal
+use Rattle.least_path.proofs.searching.least_by_queue.Goals as goal
 
 pub loop-entry-init : goal.loop-entry-init
 loop-entry-init g c =

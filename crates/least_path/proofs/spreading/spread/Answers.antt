@@ -1,0 +1,80 @@
+use Rattle.std.proofs.Common.{◌≡◌, ◌<◌, [], ℕ, take, get_or, length, ◌∙◌, sym, subst, arith, rules}
+use Rattle.std.specs.Prelude.{Contains}
+use Rattle.std.specs.List.Sorted.{IsPermutation}
+use Rattle.std.proofs.lemmas.List.{take_all}
+use Rattle.weighted_relations.specs.declared.Arc.{Arc}
+use Rattle.weighted_relations.specs.Machines.{final_of}
+use Rattle.state_tuples.specs.Calls.{IsKnown}
+use Rattle.state_tuples.specs.Orders.{moves_on}
+use Rattle.least_path.specs.declared.relaxing.Relaxed.{Relaxed}
+use Rattle.least_path.specs.Waiting.{Fits}
+use Rattle.least_path.specs.Texts.{text_of, Grows}
+use Rattle.least_path.specs.Growths.{Leading, AlongArc, AlongArcs, AtEnd}
+use Rattle.least_path.specs.Relaxing.{Gained}
+use Rattle.least_path.proofs.Letters.{grows_text, grows_trans}
+use Rattle.least_path.proofs.Waiters.{fits_grow}
+use Rattle.least_path.proofs.Meeting.{gained_growth, gained_at}
+use Rattle.least_path.proofs.Along.{moves_as, arcs_more, steps_whole}
+use Rattle.least_path.proofs.Stops.{stops_later}
+use Rattle.least_path.proofs.spreading.spread.Goals as goal
+
+-- a growth, with the text of the beginning
+from_start : (a b c : Relaxed) (w o : ℕ) (D : Leading) → Grows a.outputs b.outputs → o < length a.outputs → Gained b c w (text_of b.outputs o) D → Gained b c w (text_of a.outputs o) D
+from_start a b c w o D texts l h = gained_at b c w (text_of a.outputs o) (text_of b.outputs o) (grows_text a.outputs b.outputs texts o l) h
+
+pub returns-in_err-spread_along-clause-up : goal.returns-in_err-spread_along-clause-up
+returns-in_err-spread_along-clause-up g c =
+    let h = stops_later g.X.Expander.goes_on g.X.Expander.gives_up g.met.X.Expander.on_again c.args.x.now c.loop-arc.x c.spread_along.new.x c.loop-arc.invariant.on c.in_err-spread_along.ensures.up in
+    search rules
+
+pub returns-in_err-spread_to_end-clause-up : goal.returns-in_err-spread_to_end-clause-up
+returns-in_err-spread_to_end-clause-up g c =
+    let h = stops_later g.X.Expander.goes_on g.X.Expander.gives_up g.met.X.Expander.on_again c.args.x.now c.loop-arc.x c.spread_to_end.new.x c.loop-arc.invariant.on c.in_err-spread_to_end.ensures.up in
+    search rules
+
+pub loop-arc-preserved : goal.loop-arc-preserved
+loop-arc-preserved g c =
+    let a = c.relax_all.new.self in
+    let b = c.loop-arc.search in
+    let d = c.spread_along.new.search in
+    let from = c.args.from.now in
+    let fits : Fits c.relax_all.new.self.outputs c.args.from.now = fits_grow c.args.search.now.outputs c.relax_all.new.self.outputs c.in_ok-relax_all.ensures.texts c.args.from.now c.requires.from in
+    let same : g.X.Expander.cascades c.loop-arc.x ≡ g.X.Expander.cascades c.args.x.now = g.met.X.Expander.on_stays c.args.x.now c.loop-arc.x c.loop-arc.invariant.on in
+    let after : g.X.Expander.cascades c.spread_along.new.x ≡ g.X.Expander.cascades c.loop-arc.x = g.met.X.Expander.on_stays c.loop-arc.x c.spread_along.new.x c.in_ok-spread_along.ensures.on in
+    let row = c.arcs_of-arc-items.result.now in
+    let i = c.loop-arc.arc-index in
+    let arc : Arc = get_or c.arcs_of-arc-items.result.now c.loop-arc.arc-index (record { input = 0; output = 0; weight = 0; next = 0 }) in
+    let own = c.loop-arc.invariant.known in
+    let one = c.in_ok-spread_along.ensures.gained own.0 own.1 own.2 in
+    record {
+      kept = one.kept;
+      texts = grows_trans c.relax_all.new.self.outputs c.loop-arc.search.outputs c.spread_along.new.search.outputs c.loop-arc.invariant.texts one.texts;
+      gained = λ e k h. arcs_more (gained_growth from.weight (text_of c.relax_all.new.self.outputs c.args.from.now.output)) a b d e c.args.tuple.now row i (record { input = 0; output = 0; weight = 0; next = 0 }) c.loop-arc-test.true (c.loop-arc.invariant.gained e k h)
+          (from_start a b d from.weight from.output (AlongArc e c.args.tuple.now arc arc.input) c.loop-arc.invariant.texts fits.output (c.in_ok-spread_along.ensures.gained e (subst (λ cs. Contains cs e) (sym same) k) h));
+      ready = c.spread_along.ensures.ready;
+      known = subst (λ cs. IsKnown cs c.args.tuple.now) (sym after) c.loop-arc.invariant.known;
+      on = g.met.X.Expander.on_again c.args.x.now c.loop-arc.x c.spread_along.new.x c.loop-arc.invariant.on c.in_ok-spread_along.ensures.on;
+    }
+
+pub returns-clause-gained : goal.returns-clause-gained
+returns-clause-gained g c = λ e k h.
+    let a = c.args.search.now in
+    let b = c.relax_all.new.self in
+    let d = c.loop-arc.search in
+    let last = c.spread_to_end.new.search in
+    let from = c.args.from.now in
+    let t = c.args.tuple.now in
+    let y = text_of c.args.search.now.outputs c.args.from.now.output in
+    let same : g.X.Expander.cascades c.loop-arc.x ≡ g.X.Expander.cascades c.args.x.now = g.met.X.Expander.on_stays c.args.x.now c.loop-arc.x c.loop-arc.invariant.on in
+    let moved : IsPermutation (moves_on e c.args.tuple.now 0) c.deref.result.now = subst (IsPermutation (moves_on e c.args.tuple.now 0)) (sym c.deref.ensures.value) (c.in_ok-arcs_on.ensures.arcs e k h).same in
+    let whole : take c.loop-arc.arc-index c.arcs_of-arc-items.result.now ≡ get_or c.args.source.now.arcs c.args.state [] = take_all c.loop-arc.arc-index c.arcs_of-arc-items.result.now (omega arith) ∙ c.arcs_of-arc-items.ensures.value in
+    let arcs : Gained b d from.weight (text_of c.relax_all.new.self.outputs c.args.from.now.output) (AlongArcs e t (get_or c.args.source.now.arcs c.args.state [])) = subst (λ row. Gained c.relax_all.new.self c.loop-arc.search c.args.from.now.weight (text_of c.relax_all.new.self.outputs c.args.from.now.output) (AlongArcs e c.args.tuple.now row)) whole (c.loop-arc.invariant.gained e k h) in
+    let end : Gained d last from.weight (text_of c.loop-arc.search.outputs c.args.from.now.output) (AtEnd e t (final_of c.args.source.now.finals c.args.state)) = subst (λ f. Gained c.loop-arc.search c.spread_to_end.new.search c.args.from.now.weight (text_of c.loop-arc.search.outputs c.args.from.now.output) (AtEnd e c.args.tuple.now f)) c.final_of.ensures.value (c.in_ok-spread_to_end.ensures.gained e (subst (λ cs. Contains cs e) (sym same) k) h) in
+    let texts = grows_trans c.args.search.now.outputs c.relax_all.new.self.outputs c.loop-arc.search.outputs c.in_ok-relax_all.ensures.texts c.loop-arc.invariant.texts in
+    steps_whole c.args.source.now e c.args.state t (gained_growth from.weight y) a b d last
+    (moves_as (gained_growth from.weight y) a b c.args.state t (moves_on e c.args.tuple.now 0) c.deref.result.now moved c.in_ok-relax_all.ensures)
+    (from_start a b d from.weight from.output (AlongArcs e t (get_or c.args.source.now.arcs c.args.state [])) c.in_ok-relax_all.ensures.texts c.requires.from.output arcs)
+    (from_start a d last from.weight from.output (AtEnd e t (final_of c.args.source.now.finals c.args.state)) texts c.requires.from.output end)
+
+pub returns-clause-on : goal.returns-clause-on
+returns-clause-on g c = g.met.X.Expander.on_again c.args.x.now c.loop-arc.x c.spread_to_end.new.x c.loop-arc.invariant.on c.in_ok-spread_to_end.ensures.on

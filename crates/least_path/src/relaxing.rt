@@ -1,0 +1,121 @@
+// What a search by lists keeps, and how a node is met.
+
+ghost use Rattle.std.specs.Prelude.{◌≡◌, ◌<◌, ◌+◌, ◌^◌, [], ℕ, List, IfOk, OnOk, MatchOption};
+ghost use Rattle.weighted_relations.specs.Graphs.{label as written};
+
+use crate::lists::{Lists, Turn};
+use crate::marks::{Mark, best, is_no_greater, is_shorter, is_waiting};
+use crate::node::Node;
+use crate::nodes::{Nodes, meet};
+use crate::outputs::Outputs;
+use crate::queue::Entry;
+use crate::reaching::longer;
+use state_tuples::{Tuple, TupleArc};
+use std::alloc::{AllocError, Global};
+
+/// The nodes met, what is known of each, the outputs, and the nodes that wait.
+#[derive(Drop)]
+pub(crate) struct Relaxed {
+    pub(crate) nodes: Nodes,
+    pub(crate) marks: Vec<Mark>,
+    pub(crate) outputs: Outputs,
+    pub(crate) lists: Lists,
+}
+
+impl Relaxed {
+    ghost use Rattle.least_path.specs.Texts.{text_of};
+    ghost use Rattle.least_path.specs.Waiting.{Fits};
+    ghost use Rattle.least_path.specs.Growths.{AlongMoves};
+    ghost use Rattle.least_path.specs.Keeps.{IsEdge};
+    ghost use Rattle.least_path.specs.Relaxing.{Kept, Gained, IsBest, IsEmpty, IsMet};
+
+    /// Nothing is met. There is room for so many nodes.
+    pub(crate) fn with_capacity(alloc: Global, room: usize) -> Result<Relaxed, AllocError>
+        ensures { IfOk result IsEmpty }
+    {
+        Ok(Relaxed {
+            nodes: Nodes::with_capacity(alloc, room)?,
+            marks: Vec::with_capacity(alloc, room)?,
+            outputs: Outputs::new(alloc),
+            lists: Lists::new(alloc),
+        })
+    }
+
+    /// A node is met by a way of this weight and output more. Where the way is less than its best so far, it takes the place of this and
+    /// the node waits.
+    pub(crate) fn relax(
+        &mut self,
+        node: Node,
+        from: &Entry,
+        weight: u64,
+        output: u16,
+        turn: Turn,
+    ) -> Result<(), AllocError>
+        requires kept { Kept self.old }
+        requires from { Fits self.old.outputs from.now }
+        requires light { from.now.weight < 2 ^ 127 }
+        requires short { from.now.length + 1 < 2 ^ 64 }
+        ensures { OnOk result (Gained self.old self.new from.now.weight (text_of self.old.outputs from.now.output) (IsEdge node weight (written output []))) }
+    {
+        let number = meet(&mut self.nodes, &mut self.marks, node)?;
+        let weight = from.weight + weight as u128;
+        let length = longer(from.length, output);
+        if is_shorter(&self.marks[number], weight, length) {
+            return Ok(());
+        }
+        let output = self.outputs.more(from.output, output)?;
+        let way = Entry {
+            weight,
+            length,
+            output,
+            node: number,
+        };
+        if is_no_greater(&self.marks[number], &self.outputs, &way) {
+            return Ok(());
+        }
+        let is_listed = is_waiting(&self.marks[number]);
+        self.marks[number] = Mark::Waiting(way);
+        if is_listed {
+            return Ok(());
+        }
+        self.lists.put(number, turn)?;
+        Ok(())
+    }
+
+    /// What these moves lead to is met, with the source at a state.
+    pub(crate) fn relax_all(
+        &mut self,
+        state: usize,
+        tuple: &Tuple,
+        from: &Entry,
+        moves: &[TupleArc],
+        turn: Turn,
+    ) -> Result<(), AllocError>
+        requires kept { Kept self.old }
+        requires from { Fits self.old.outputs from.now }
+        requires light { from.now.weight < 2 ^ 127 }
+        requires short { from.now.length + 1 < 2 ^ 64 }
+        ensures { OnOk result (Gained self.old self.new from.now.weight (text_of self.old.outputs from.now.output) (AlongMoves state tuple.now moves.now)) }
+    {
+        for a in moves {
+            let next = Tuple {
+                cascade: tuple.cascade,
+                states: a.states,
+                filters: a.filters,
+            };
+            self.relax(Node::At(state, next), from, a.weight, a.output, turn)?;
+        }
+        Ok(())
+    }
+
+    /// The best way to the end, where it was met.
+    pub(crate) fn best_end(&self) -> Option<Entry>
+        requires { Kept self.now }
+        ensures { MatchOption result ((w : ℕ) (y : List ℕ) → IsMet self.now Node.End w y → ⊥) (IsBest self.now Node.End) }
+    {
+        match self.nodes.end() {
+            Some(number) => best(&self.marks[number]),
+            None => None,
+        }
+    }
+}
