@@ -14,7 +14,6 @@ use Rattle.acceptor_ops.specs.Tables.{class_of}
 use Rattle.acceptor_ops.specs.Alike.{Classing, AreClasses}
 use Rattle.acceptor_ops.specs.StateSets.{IsActive, HasLabel, Filled, FitsClasses, RowFilled, with_element}
 use Rattle.acceptor_ops.proofs.Inputs.{none_in_nil, place_of}
-use Rattle.acceptor_ops.proofs.Labels.{one_arc}
 
 -- a final state or one with a labelled arc is active
 pub active_of : (m : Machine) (s : ℕ) (row : List Arc) → row ≡ get_or m.arcs s [] → (IsSome (final_of m.finals s) ⊎ Any HasLabel row) ↔ IsActive m s
@@ -155,6 +154,9 @@ element_only lists c t d u l h = elim (cases_eq d c) [
 ]
 
 -- one arc of a row after the other
+pub one_arc : (row : List Arc) (k : ℕ) (a b : Arc) → slice_get row k ≡ Some a → slice_get row k ≡ Some b → b ≡ a
+one_arc row k a b h j = let e : Some a ≡ Some b = sym h ∙ j in cc
+
 pub row_none : (classes : List ℕ) (row : List Arc) (old : List (List ℕ)) → RowFilled classes row 0 old old
 row_none classes row old = record { count = refl; kept = λ c t h. h; all = λ j a l. absurd (omega (arith, l)); only = λ c t h. inl h }
 

@@ -49,4 +49,11 @@ impl Buckets {
     {
         self.lists[bucket].as_slice()
     }
+
+    /// How many buckets there are.
+    pub fn len(&self) -> usize
+        ensures count { result ≡ length self.now }
+    {
+        self.lists.len()
+    }
 }

@@ -1,17 +1,19 @@
 // Classes of labels that no state of a transducer tells apart.
 
-ghost use Rattle.std.specs.Prelude.{◌≡◌, ◌≤◌, ◌<◌, ◌-◌, ◌^◌, ℕ, length, get_or, slice_get, Some, true, false, OnOk, IfOk};
+ghost use Rattle.std.specs.Prelude.{◌≡◌, ◌<◌, [], ℕ, length, slice_get, Some, OnOk, IfOk};
 ghost use Rattle.weighted_relations.specs.declared.Arc.{Arc};
 ghost use Rattle.acceptor_ops.specs.Tables.{class_of};
-ghost use Rattle.acceptor_ops.specs.Alike.{AreClasses, SeenTo, RowSeen, ClassesTo, next_class, next_count};
+ghost use Rattle.acceptor_ops.specs.Alike.{AreClasses, AreSteps, RowNoted, AreNumbered};
 
+use crate::buckets::Buckets;
 use fst_core::{Arc, Fst};
+use state_table::{StateSet, StateTable};
 use std::alloc::{AllocError, Global};
 use std::marker::Model;
 
 /// A class for each label, so that a state's row needs no place for each of 257 labels.
 ///
-/// A label that some arc reads has a class of its own. The others share the class 0.
+/// Labels that lead from the same states to the same ones share a class.
 #[derive(Drop)]
 pub(crate) struct Classes {
     of: Vec<usize>,
@@ -31,8 +33,8 @@ impl Classes {
     pub fn new(alloc: Global, a: &Fst) -> Result<Classes, AllocError>
         ensures classes { IfOk result (AreClasses a.now) }
     {
-        let seen = labels_read(alloc, a)?;
-        let classes = classed(alloc, &seen)?;
+        let steps = steps_of(alloc, a)?;
+        let classes = classed(alloc, &steps)?;
         Ok(classes)
     }
 
@@ -60,54 +62,47 @@ impl Classes {
     }
 }
 
-/// A class for each marked label, and the class 0 for the others.
-fn classed(alloc: Global, seen: &[bool]) -> Result<Classes, AllocError>
-    ensures classes { IfOk result (ClassesTo seen.now (length seen.now)) }
+/// The classes of labels with these steps: a class for each list.
+fn classed(alloc: Global, steps: &Buckets) -> Result<Classes, AllocError>
+    ensures classes { IfOk result (λ c. AreNumbered steps.now (length steps.now) c) }
 {
+    let mut lists = StateTable::new(alloc);
     let mut of = Vec::new(alloc);
-    let mut count = 1;
-    for mark in seen {
-        of.push(class_if(*mark, count))?;
-        count = count_if(*mark, count);
+    for label in 0..steps.len() {
+        let list = Vec::from_slice(alloc, steps.get(label))?;
+        of.push(lists.number(StateSet::new(list))?)?;
     }
-    Ok(Classes { of, count })
+    Ok(Classes {
+        of,
+        count: lists.len(),
+    })
 }
 
-/// The next class for a marked label, and the class 0 for another.
-fn class_if(marked: bool, count: usize) -> usize
-    ensures value { result ≡ next_class marked count }
+/// For each label its steps, by their numbers: a step is a state beside one that an arc leads to from it.
+fn steps_of(alloc: Global, a: &Fst) -> Result<Buckets, AllocError>
+    ensures steps { IfOk result (AreSteps a.now) }
 {
-    if marked { count } else { 0 }
-}
-
-/// How many classes there are after a label.
-fn count_if(marked: bool, count: usize) -> usize
-    requires small { count < 2 ^ 64 - 1 }
-    ensures value { result ≡ next_count marked count }
-{
-    if marked { count + 1 } else { count }
-}
-
-/// Marks of the labels that some arc reads.
-fn labels_read(alloc: Global, a: &Fst) -> Result<Vec<bool>, AllocError>
-    ensures seen { IfOk result (λ v. SeenTo a.now (length a.now.arcs) v.items) }
-{
-    let mut seen = Vec::new(alloc);
-    for _ in 0..258usize {
-        seen.push(false)?;
-    }
+    let mut pairs = StateTable::new(alloc);
+    let mut steps = Buckets::empty(alloc, 258)?;
     for s in 0..a.len() {
-        mark(a.arcs_of(s), &mut seen);
+        note(s, a.arcs_of(s), &mut pairs, &mut steps)?;
     }
-    Ok(seen)
+    Ok(steps)
 }
 
-/// Marks the labels that the arcs of a row read.
-fn mark(row: &[Arc], seen: &mut Vec<bool>)
-    requires within { (j : ℕ) (a : Arc) → slice_get row.now j ≡ Some a → a.input < length seen.old.items }
-    ensures seen { RowSeen row.now (length row.now) seen.old.items seen.new.items }
+/// The steps of the arcs of a state, too.
+fn note(
+    s: usize,
+    row: &[Arc],
+    pairs: &mut StateTable<(usize, usize)>,
+    steps: &mut Buckets,
+) -> Result<(), AllocError>
+    requires within { (j : ℕ) (a : Arc) → slice_get row.now j ≡ Some a → a.input < length steps.old }
+    ensures noted { OnOk result (RowNoted s row.now (length row.now) pairs.old steps.old pairs.new steps.new) }
 {
     for arc in row {
-        seen[arc.input as usize] = true;
+        let step = pairs.number((s, arc.next))?;
+        steps.put(arc.input as usize, step)?;
     }
+    Ok(())
 }

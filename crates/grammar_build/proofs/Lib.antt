@@ -1,4 +1,3 @@
 pub mod Readings
 pub mod Parts
-pub mod Rewritings
 pub mod Members

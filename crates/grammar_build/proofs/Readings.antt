@@ -21,7 +21,7 @@ use Rattle.core_expressions.specs.declared.expressions.Mode.TheVariants as mode
 use Rattle.rewrite_rules.specs.Manners.{manner_of as built_manner}
 use Rattle.grammar_build.specs.Sides.{side2_of, rule_of}
 use Rattle.grammar_build.specs.Empties.{RewritesEmptyText}
-use Rattle.grammar_build.proofs.Rewritings.{same_rewritten, input_to}
+use Rattle.rewrite_rules.proofs.Rewritings.{same_rewritten, input_to}
 
 reads_as : (e : Expr) (s : Expression) (m : Machine) (R : Relation) → expression_of e ≡ s → Same R (Rel s) → Same (Reads m) R → Same (Reads m) (Rel (expression_of e))
 reads_as e s m R p f g = subst (λ v. Same (Reads m) (Rel v)) (sym p) (same_trans (Reads m) R (Rel s) g f)

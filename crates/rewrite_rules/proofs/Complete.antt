@@ -65,7 +65,7 @@ module _ (p : Parts) (L R S : Relation) (st : Stands p L R S) where
       lift path (moved p.sigma_step s a.input) (moved p.left_step l a.output) (held_after h a.input) t z w2 px (room_unlabel h a.input x room) starts
       (subst (λ (k : Spot). Run (bimachine p) k t z w2) there r) in
       run_tag (bimachine p) (Inside s l (behind p (label a.input x ++ t)) q h) (label_append a.input x t) (label_append a.output y z) (sym (add_assoc a.weight w w2))
-      (move (walk k arc (low_label a.input x t pl) (st.within (x ++ t) px) (sym (behind_label p a.input (x ++ t)) ∙ ap (behind p) (label_append a.input x t))) rest)
+      (move (walk k arc (low_label a.input x t pl) (st.within (x ++ t) px) (sym (behind_label p a.input (x ++ t)) ∙ ap (behind p) (label_append a.input x t)) (st.sigma_live (moved p.sigma_step s a.input) (x ++ t) px (sound p L R S st rest).ends)) rest)
 
   record Continues (s : ℕ) (o r : List ℕ) (g : Gap) (y : List ℕ) (w : ℕ) : Type 0 where
     z : List ℕ
@@ -86,7 +86,7 @@ module _ (p : Parts) (L R S : Relation) (st : Stands p L R S) where
         z = c ∷ ih.z;
         output = ih.output ∙ append_assoc o (c ∷ []) ih.z;
         goes = run_tag (bimachine p) (Outside s (run p.left_step p.left_start o) (behind p (c ∷ r)) g) (label_front c r here.0) (label_front c ih.z here.0) (zero-add w)
-            (move (copied here (st.within r px) refl (may_pass p.manner g o (c ∷ r) po pr none))
+            (move (copied here (st.within r px) refl (st.sigma_live (p.sigma_step s c) r px acc) (may_pass p.manner g o (c ∷ r) po pr none))
             (subst (λ n. Run (bimachine p) (Outside (p.sigma_step s c) n (behind p r) Open) r ih.z w) (run_append p.left_step p.left_start o (c ∷ [])) ih.goes));
       }
   complete (rewrites {o} {r} {g} {u} {t} {v} {y} {w1} {w2} k path rest) po pr s acc =

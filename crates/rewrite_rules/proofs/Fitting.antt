@@ -40,9 +40,9 @@ inside_end e = elim e [ ]
 
 weight_below : (m : Machine) (t : Automata) {s : Spot} {i o n : ℕ} {to : Spot} → Moves (parts m t) s i o n to → n ≤ top_of m
 weight_below m t (guess l) = omega arith
-weight_below m t (copied byte dl e pass) = omega arith
+weight_below m t (copied byte dl e on pass) = omega arith
 weight_below m t (enter a h) = omega arith
-weight_below m t (walk {q} {a} k arc low dl e) = arc_below m q k a arc
+weight_below m t (walk {q} {a} k arc low dl e on) = arc_below m q k a arc
 weight_below m t (leave {q} {w} fin acc gl) = end_below m q w fin
 
 step_in : (d : Table) (s n : ℕ) → IsTotal d → s < length d.next → 1 ≤ n → n ≤ 257 → step_of d s n < length d.next
@@ -61,14 +61,14 @@ record Fits (m : Machine) (t : Automata) (i o v : ℕ) (s : Spot) : Type 0 where
 module _ (m : Machine) (t : Automata) (tau : WellFormed m) (ready : AreSound t) where
   moves_fit : {s : Spot} {i o v : ℕ} {to : Spot} → Moves (parts m t) s i o v to → InRange m t s → Fits m t i o v to
   moves_fit (guess {b} l) r = record { input = lit≤ tt; output = lit≤ tt; weight = lit≤ tt; ranged = (ready.sigma.start, ready.left_start, l) }
-  moves_fit (copied {s} {l} {b} {d} {c} byte dl e pass) r = record {
+  moves_fit (copied {s} {l} {b} {d} {c} byte dl e on pass) r = record {
     input = omega (arith, byte.1);
     output = omega (arith, byte.1);
     weight = lit≤ tt;
     ranged = (step_in t.sigma s c ready.sigma r.0 byte.0 (omega (arith, byte.1)), step_in t.left l c ready.left r.1 byte.0 (omega (arith, byte.1)), dl);
   }
   moves_fit (enter a h) r = record { input = lit≤ tt; output = lit≤ tt; weight = lit≤ tt; ranged = (r.0, r.1, r.2, tau.start) }
-  moves_fit (walk {s} {l} {b} {d} {q} {h} {a} k arc low dl e) r =
+  moves_fit (walk {s} {l} {b} {d} {q} {h} {a} k arc low dl e on) r =
       let f : ArcFits (length m.arcs) a = tau.arcs q k a arc in
       record {
         input = f.input;

@@ -9,3 +9,6 @@ pub mod Accepting
 pub mod Standing
 pub mod Grouping
 pub mod Unmarked
+pub mod Marking
+pub mod Ending
+pub mod Rewritings

@@ -1,6 +1,6 @@
 -- The moves that the code goes over are those of the machine.
 use Rattle.std.proofs.Common.{◌≡◌, ◌≤◌, ◌<◌, ◌⊎◌, ◌↔◌, ℕ, zero, suc, List, [], ◌∷◌, length, get_or, Some, refl, sym, ◌∙◌, ap, subst, arith, inl, inr}
-use Rattle.std.specs.Prelude.{slice_get}
+use Rattle.std.specs.Prelude.{slice_get, IsTrue}
 use Rattle.std.specs.List.{Contains}
 use Rattle.std.proofs.lemmas.Option.{slice_get_within}
 use Rattle.weighted_relations.specs.declared.Arc.{Arc}
@@ -9,7 +9,7 @@ use Rattle.weighted_relations.specs.Machines.{Machine}
 use Rattle.acceptor_ops.specs.Tables.{step_of}
 use Rattle.rewrite_rules.specs.Moves.{moved}
 use Rattle.rewrite_rules.specs.Bimachine.{Parts, Moves, guess, copied, enter, walk, leave}
-use Rattle.rewrite_rules.specs.PartsOf.{parts}
+use Rattle.rewrite_rules.specs.PartsOf.{parts, live_at}
 use Rattle.rewrite_rules.specs.Classes.{class_at, first, AreAlike, IsMember}
 use Rattle.rewrite_rules.specs.Befores.{before_at, LeadTo}
 use Rattle.rewrite_rules.specs.Tables.{Ready}
@@ -26,7 +26,7 @@ use Rattle.rewrite_rules.proofs.Drawing.{got_contains, contains_got}
 
 -- the copies of all bytes, one by one
 abbrev Copies : Parts → ℕ → ℕ → ℕ → Step → Type 0
-Copies p s l b x = (c : ℕ) × (d : ℕ) × IsByte c × (d < p.back_count) × (p.back_step d c ≡ b) × (x ≡ copy_step c (Outside (p.sigma_step s c) (p.left_step l c) d Open))
+Copies p s l b x = (c : ℕ) × (d : ℕ) × IsByte c × (d < p.back_count) × (p.back_step d c ≡ b) × IsTrue (p.sigma_live (p.sigma_step s c)) × (x ≡ copy_step c (Outside (p.sigma_step s c) (p.left_step l c) d Open))
 
 hub_cases : {p : Parts} {i o v : ℕ} {t : Spot} → Moves p Hub i o v t → Guess p p.back_count (record { input = i; output = o; weight = v; to = t })
 hub_cases (guess {b} l) = (b, l, refl)
@@ -34,13 +34,13 @@ hub_cases (guess {b} l) = (b, l, refl)
 outside_cases : {p : Parts} {s l b : ℕ} {g : Gap} {i o v : ℕ} {t : Spot} → Moves p (Outside s l b g) i o v t →
     Enter p (record { sigma = s; left = l; back = b }) g (record { input = i; output = o; weight = v; to = t }) ⊎
     (Rattle.rewrite_rules.specs.Bimachine.MayPass p.manner (p.left_accepts l) (p.may_begin g b) × Copies p s l b (record { input = i; output = o; weight = v; to = t }))
-outside_cases (copied {d} {c} byte dl e pass) = inr (pass, (c, d, byte, dl, e, refl))
+outside_cases (copied {d} {c} byte dl e on pass) = inr (pass, (c, d, byte, dl, e, on, refl))
 outside_cases (enter a h) = inl ((a, h), refl)
 
 inside_cases : {p : Parts} {s l b q : ℕ} {h : Held} {i o v : ℕ} {t : Spot} → Moves p (Inside s l b q h) i o v t →
     Walk p (record { sigma = s; left = l; back = b }) (get_or p.tau.arcs q []) h (length (get_or p.tau.arcs q [])) (record { input = i; output = o; weight = v; to = t }) ⊎
     Leave p (record { sigma = s; left = l; back = b }) q h (record { input = i; output = o; weight = v; to = t })
-inside_cases {p} (walk {d} {q} {a} k arc low dl e) = inl (k, slice_get_within (get_or p.tau.arcs q []) k a arc, (a, arc, (d, low, dl, e, refl)))
+inside_cases {p} (walk {d} {q} {a} k arc low dl e on) = inl (k, slice_get_within (get_or p.tau.arcs q []) k a arc, (a, arc, (d, low, dl, e, on, refl)))
 inside_cases (leave {w} {g} fin acc gl) = inr (w, g, fin, acc, gl, refl)
 
 pub lists_hub : (p : Parts) (x : Step) → Guess p p.back_count x ↔ IsMove p Hub x
@@ -50,7 +50,7 @@ pub lists_inside : (p : Parts) (at : Place) (q : ℕ) (h : Held) (x : Step) → 
 lists_inside p at q h x = (
   λ k. elim k [
     | inl (w, g, fin, acc, gl, e) ↦ subst (IsMove p (Inside at.sigma at.left at.back q h)) (sym e) (leave fin acc gl)
-    | inr (i, il, (a, arc, (d, low, dl, to, e))) ↦ subst (IsMove p (Inside at.sigma at.left at.back q h)) (sym e) (walk i arc low dl to)
+    | inr (i, il, (a, arc, (d, low, dl, to, on, e))) ↦ subst (IsMove p (Inside at.sigma at.left at.back q h)) (sym e) (walk i arc low dl to on)
   ],
   λ k. elim (inside_cases k) [ inl m ↦ inr m | inr m ↦ inl m ],
 )
@@ -58,7 +58,7 @@ lists_inside p at q h x = (
 module _ (m : Machine) (t : Tables) (ready : Ready m t) where
   -- one byte of a class stands for all
   copies_to : (at : Place) (x : Step) → Below (CopyOf t at) (length t.classes.members) x → Copies (parts m t.automata) at.sigma at.left at.back x
-  copies_to at x (n, nl, (j, jl, (d, is, (c, has, e)))) =
+  copies_to at x (n, nl, (on, (j, jl, (d, is, (c, has, e))))) =
       let member : IsMember t.automata t.classes n c = ready.classes.sound n c has in
       let like : AreAlike t.automata (first t.classes n) c = member.alike in
       let lead : LeadTo t.automata.back (first t.classes n) (length t.automata.back.next) (get_or t.befores n []) = ready.befores.each n nl in
@@ -68,11 +68,12 @@ module _ (m : Machine) (t : Tables) (ready : Ready m t) where
         member.byte,
         from.0,
         sym (like.back d) ∙ from.1,
+        ap (live_at t.automata.live.items) (sym (like.sigma at.sigma)) ∙ on,
         e ∙ ap (λ s. copy_step c (Outside s (step_of t.automata.left at.left (first t.classes n)) d Open)) (like.sigma at.sigma) ∙ ap (λ l. copy_step c (Outside (step_of t.automata.sigma at.sigma c) l d Open)) (like.left at.left),
       )
 
   copies_from : (at : Place) (x : Step) → Copies (parts m t.automata) at.sigma at.left at.back x → Below (CopyOf t at) (length t.classes.members) x
-  copies_from at x (c, d, byte, dl, e, is) =
+  copies_from at x (c, d, byte, dl, e, on, is) =
       let n : ℕ = class_at t.classes c in
       let high : c < 256 = omega (arith, byte.1) in
       let nl : n < length t.classes.members = ready.classes.within c byte.0 high in
@@ -84,15 +85,18 @@ module _ (m : Machine) (t : Tables) (ready : Ready m t) where
         n,
         nl,
         (
-          got.0,
-          slice_get_within (before_at t.befores n at.back) got.0 d got.1,
+          ap (live_at t.automata.live.items) (like.sigma at.sigma) ∙ on,
           (
-            d,
-            got.1,
+            got.0,
+            slice_get_within (before_at t.befores n at.back) got.0 d got.1,
             (
-              c,
-              has,
-              is ∙ ap (λ s. copy_step c (Outside s (step_of t.automata.left at.left c) d Open)) (sym (like.sigma at.sigma)) ∙ ap (λ l. copy_step c (Outside (step_of t.automata.sigma at.sigma (first t.classes n)) l d Open)) (sym (like.left at.left)),
+              d,
+              got.1,
+              (
+                c,
+                has,
+                is ∙ ap (λ s. copy_step c (Outside s (step_of t.automata.left at.left c) d Open)) (sym (like.sigma at.sigma)) ∙ ap (λ l. copy_step c (Outside (step_of t.automata.sigma at.sigma (first t.classes n)) l d Open)) (sym (like.left at.left)),
+              ),
             ),
           ),
         ),
@@ -107,13 +111,13 @@ module _ (m : Machine) (t : Tables) (ready : Ready m t) where
     λ k. elim (outside_cases k) [ inl h ↦ inl h | inr (pass, h) ↦ inr (pass, copies_from at x h) ],
   ) where
     go : Rattle.rewrite_rules.specs.Bimachine.MayPass (parts m t.automata).manner ((parts m t.automata).left_accepts at.left) ((parts m t.automata).may_begin g at.back) → Copies (parts m t.automata) at.sigma at.left at.back x → IsMove (parts m t.automata) (Outside at.sigma at.left at.back g) x
-    go pass (c, d, byte, dl, to, e) = subst (IsMove (parts m t.automata) (Outside at.sigma at.left at.back g)) (sym e) (copied byte dl to pass)
+    go pass (c, d, byte, dl, to, on, e) = subst (IsMove (parts m t.automata) (Outside at.sigma at.left at.back g)) (sym e) (copied byte dl to on pass)
 
   -- an arc of tau that reads nothing leaves the backward automaton where it is
-  pub walks_empty : (at : Place) (h : Held) (a : Arc) → a.input ≡ 0 → at.back < length t.automata.back.next → (x : Step) → WalkFrom (parts m t.automata) at h a (at.back ∷ []) 1 x ↔ WalkBy (parts m t.automata) at h a x
+  pub walks_empty : (at : Place) (h : Held) (a : Arc) → a.input ≡ 0 → at.back < length t.automata.back.next → (x : Step) → WalkFrom (parts m t.automata) at h a (at.back ∷ []) x ↔ WalkBy (parts m t.automata) at h a x
   walks_empty at h a e l x = (
-    λ (k, kl, (d, is, to)). let same : d ≡ at.back = one k d is in (d, omega (arith, e), subst (λ n. n < length t.automata.back.next) (sym same) l, ap (moved (step_of t.automata.back) d) e ∙ same, to),
-    λ (d, low, dl, at', to). let same : d ≡ at.back = sym (ap (moved (step_of t.automata.back) d) e) ∙ at' in (0, omega arith, (at.back, refl, to ∙ ap (walk_step (parts m t.automata) at h a) same)),
+    λ (on, (k, kl, (d, is, to))). let same : d ≡ at.back = one k d is in (d, omega (arith, e), subst (λ n. n < length t.automata.back.next) (sym same) l, ap (moved (step_of t.automata.back) d) e ∙ same, on, to),
+    λ (d, low, dl, at', on, to). let same : d ≡ at.back = sym (ap (moved (step_of t.automata.back) d) e) ∙ at' in (on, (0, omega arith, (at.back, refl, to ∙ ap (walk_step (parts m t.automata) at h a) same))),
   ) where
     one : (k d : ℕ) → slice_get (at.back ∷ []) k ≡ Some d → d ≡ at.back
     one zero d is = cc
@@ -123,25 +127,25 @@ module _ (m : Machine) (t : Tables) (ready : Ready m t) where
   moved_label f s zero l = absurd (omega (arith, l))
   moved_label f s (suc n) l = refl
 
-  pub walks_label : (at : Place) (h : Held) (a : Arc) (sources : List ℕ) → 1 ≤ a.input → a.input ≤ 255 → sources ≡ before_at t.befores (class_at t.classes a.input) at.back → (x : Step) → WalkFrom (parts m t.automata) at h a sources (length sources) x ↔ WalkBy (parts m t.automata) at h a x
+  pub walks_label : (at : Place) (h : Held) (a : Arc) (sources : List ℕ) → 1 ≤ a.input → a.input ≤ 255 → sources ≡ before_at t.befores (class_at t.classes a.input) at.back → (x : Step) → WalkFrom (parts m t.automata) at h a sources x ↔ WalkBy (parts m t.automata) at h a x
   walks_label at h a sources low high is x =
       let n : ℕ = class_at t.classes a.input in
       let top : a.input < 256 = omega arith in
       let nl : n < length t.classes.members = ready.classes.within a.input low top in
       let like : AreAlike t.automata (first t.classes n) a.input = (ready.classes.sound n a.input (ready.classes.all a.input low top)).alike in
       let lead : LeadTo t.automata.back (first t.classes n) (length t.automata.back.next) (get_or t.befores n []) = ready.befores.each n nl in (
-        λ (k, kl, (d, at', to)).
+        λ (on, (k, kl, (d, at', to))).
             let from = (lead.sources at.back d).0 (got_contains (before_at t.befores n at.back) k d (ap (λ z. slice_get z k) (sym is) ∙ at')) in
-            (d, high, from.0, moved_label (step_of t.automata.back) d a.input low ∙ sym (like.back d) ∙ from.1, to),
-        λ (d, low', dl, to, e).
+            (d, high, from.0, moved_label (step_of t.automata.back) d a.input low ∙ sym (like.back d) ∙ from.1, on, to),
+        λ (d, low', dl, to, on, e).
             let got = contains_got (before_at t.befores n at.back) d ((lead.sources at.back d).1 (dl, like.back d ∙ sym (moved_label (step_of t.automata.back) d a.input low) ∙ to)) in
             let at' : slice_get sources got.0 ≡ Some d = ap (λ z. slice_get z got.0) is ∙ got.1 in
-            (got.0, slice_get_within sources got.0 d at', (d, at', e)),
+            (on, (got.0, slice_get_within sources got.0 d at', (d, at', e))),
       )
 
   -- an arc of tau that reads a mark is walked nowhere
   pub walks_mark : (at : Place) (h : Held) (a : Arc) → 255 < a.input → (x : Step) → WalkBy (parts m t.automata) at h a x → ⊥
-  walks_mark at h a high x (d, low, dl, to, e) = omega (arith, low)
+  walks_mark at h a high x (d, low, dl, to, on, e) = omega (arith, low)
 
   pub source_within : (b n : ℕ) → n < length t.classes.members → b < length t.automata.back.next → b < length (get_or t.befores n [])
   source_within b n nl l = let lead : LeadTo t.automata.back (first t.classes n) (length t.automata.back.next) (get_or t.befores n []) = ready.befores.each n nl in subst (λ k. b < k) (sym lead.count) l

@@ -127,7 +127,7 @@ module _ (p : Parts) (L R S : Relation) (st : Stands p L R S) where
 
   sound_move : {i o v : ℕ} {s t : Spot} (x y : List ℕ) (w : ℕ) → Moves p s i o v t → Meaning t x y w → Meaning s (label i x) (label o y) (v + w)
   sound_move x y w (guess {b} l) m = meaning_tag Hub refl refl (sym (zero-add w)) (record { within = (st.sigma x m.plain).0 m.ends; goes = m.goes [] (All-nil IsByte) refl })
-  sound_move x y w (copied {s} {l} {b} {d} {c} {g} byte dl e pass) m =
+  sound_move x y w (copied {s} {l} {b} {d} {c} {g} byte dl e on pass) m =
       meaning_tag (Outside s l b g) (sym (label_front c x byte.0)) (sym (label_front c y byte.0)) (sym (zero-add w)) (
       let px : IsPlain (c ∷ x) = All-cons IsByte c x byte m.plain in
       let eb : b ≡ behind p (c ∷ x) = sym e ∙ ap (λ z. p.back_step z c) m.guessed in
@@ -159,7 +159,7 @@ module _ (p : Parts) (L R S : Relation) (st : Stands p L R S) where
             (rewrites begins m.path (m.goes (o ++ m.v) (All-append IsByte o m.v po pv)
             (ap (λ k. run p.left_step k m.v) el ∙ sym (run_append p.left_step p.left_start o m.v))));
       })
-  sound_move x y w (walk {s} {l} {b} {d} {q} {h} {a} k arc high dl e) m = record {
+  sound_move x y w (walk {s} {l} {b} {d} {q} {h} {a} k arc high dl e on) m = record {
     u = label a.input m.u;
     t = m.t;
     v = label a.output m.v;

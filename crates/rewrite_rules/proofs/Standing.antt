@@ -1,5 +1,5 @@
 -- The automata say of texts what the machine needs.
-use Rattle.std.proofs.Common.{◌≡◌, ℕ, ◌<◌, ◌↔◌, List, [], ◌∷◌, ◌++◌, length, Bool, true, false, refl, sym, ◌∙◌, ap, subst, arith, inl, inr, append_assoc}
+use Rattle.std.proofs.Common.{◌≡◌, ℕ, ◌<◌, ◌↔◌, List, [], ◌∷◌, ◌++◌, length, Bool, true, false, refl, sym, ◌∙◌, ap, subst, arith, inl, inr, append_assoc, true≢false}
 use Rattle.std.specs.Prelude.{All, IsTrue, ◌&&◌, ◌||◌, reverse}
 use Rattle.std.proofs.lemmas.List.{reverse-append}
 use Rattle.std.proofs.lemmas.Bool.{and_parts, and_from, or_cases}
@@ -12,7 +12,7 @@ use Rattle.acceptor_ops.specs.Tables.{Table, step_of, run_from, IsTotal}
 use Rattle.rewrite_rules.specs.Gaps.{HasRoom}
 use Rattle.rewrite_rules.specs.Bimachine.{run, behind}
 use Rattle.rewrite_rules.specs.Stands.{IsPlain, Ahead, Stands}
-use Rattle.rewrite_rules.specs.PartsOf.{parts, accepts_at, right_of, begins_of}
+use Rattle.rewrite_rules.specs.PartsOf.{parts, accepts_at, live_at, right_of, begins_of, IsDead, AreLive}
 use Rattle.rewrite_rules.specs.Languages.{Fronts, LeftText, BackText, Speaks, Conditions}
 use Rattle.rewrite_rules.specs.declared.automata.Automata.{Automata}
 use Rattle.rewrite_rules.specs.declared.spots.Gap.{Gap}
@@ -25,6 +25,18 @@ run_same d s (c ∷ x) = run_same d (step_of d s c) x
 run_last : (d : Table) (s : ℕ) (x : List ℕ) (c : ℕ) → run_from d s (x ++ c ∷ []) ≡ step_of d (run_from d s x) c
 run_last d s [] c = refl
 run_last d s (b ∷ x) c = run_last d (step_of d s b) x c
+
+-- what is accepted from a state keeps it live
+dead_stays : (d : Table) (s : ℕ) → IsDead d s → (x : List ℕ) → IsPlain x → run (step_of d) s x ≡ s
+dead_stays d s h [] px = refl
+dead_stays d s h (c ∷ x) px = ap (λ z. run (step_of d) z x) (h.stays c (All-head IsByte c x px)) ∙ dead_stays d s h x (All-tail IsByte c x px)
+
+live_is : (d : Table) (live : List Bool) → AreLive d live → (s : ℕ) (x : List ℕ) → IsPlain x → IsTrue (accepts_at d (run (step_of d) s x)) → IsTrue (live_at live s)
+live_is d live h s x px acc = by (live_at live s) refl
+  where
+    by : (b : Bool) → live_at live s ≡ b → IsTrue (live_at live s)
+    by true e = e
+    by false e = absurd (true≢false (sym acc ∙ ap (accepts_at d) (dead_stays d s (h.dead s e) x px) ∙ (h.dead s e).accepts))
 
 -- labels
 plain_labels : (x : List ℕ) → IsPlain x → All IsLabel x
@@ -82,7 +94,7 @@ behind_run m t e (c ∷ r) =
 mark_labels : (r : List ℕ) → IsPlain r → All IsLabel (r ++ 257 ∷ [])
 mark_labels r h = All-append IsLabel r (257 ∷ []) (plain_labels r h) (All-cons IsLabel 257 [] (omega arith, omega arith) (All-nil IsLabel))
 
-module _ (m : Machine) (t : Automata) (L R S : Relation) (au : Speaks (Reads m) L R S t) (fair : Conditions (Reads m) L R S) (total : IsTotal t.back) where
+module _ (m : Machine) (t : Automata) (L R S : Relation) (au : Speaks (Reads m) L R S t) (fair : Conditions (Reads m) L R S) (total : IsTotal t.back) (live : AreLive t.sigma t.live.items) where
   -- the left automaton
   ends_to : (z : List ℕ) → LeftText L z → EndsIn L z
   ends_to z j = record { front = j.front; back = j.back; parts = j.parts; accepted = (input_accepted L fair.left j.back).0 j.ends }
@@ -199,6 +211,7 @@ module _ (m : Machine) (t : Automata) (L R S : Relation) (au : Speaks (Reads m) 
       λ h. (input_accepted S fair.sigma x).0 ((au.sigma x).0 (record { labels = plain_labels x px; accepted = ap (accepts_at t.sigma) (run_same t.sigma t.sigma.start x) ∙ h })),
       λ h. ap (accepts_at t.sigma) (sym (run_same t.sigma t.sigma.start x)) ∙ ((au.sigma x).1 ((input_accepted S fair.sigma x).1 h)).accepted,
     );
+    sigma_live = live_is t.sigma t.live.items live;
     sigma_plain = λ x a. (fair.sigma_unmarked x x a.0 a.1).0;
     tau_input = λ u v w h. (fair.tau_unmarked u v w h).0;
     tau_output = λ u v w h. (fair.tau_unmarked u v w h).1;

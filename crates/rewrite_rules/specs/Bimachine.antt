@@ -20,6 +20,8 @@ pub record Parts : Type 0 where
   pub sigma_start : ℕ
   pub sigma_step : ℕ → ℕ → ℕ
   pub sigma_accepts : ℕ → Bool
+  -- false where no text leads to acceptance any more
+  pub sigma_live : ℕ → Bool
   -- the forward automaton of the left context, over outputs; it has read the first mark
   pub left_start : ℕ
   pub left_step : ℕ → ℕ → ℕ
@@ -52,11 +54,11 @@ pub data Moves (p : Parts) : Spot → ℕ → ℕ → ℕ → Spot → Type 0 wh
   -- guess the backward automaton's state before the whole input
   guess : {b : ℕ} → b < p.back_count → Moves p Hub 0 0 0 (Outside p.sigma_start p.left_start b Open)
   -- copy a byte
-  copied : {s l b d c : ℕ} {g : Gap} → IsByte c → d < p.back_count → p.back_step d c ≡ b → MayPass p.manner (p.left_accepts l) (p.may_begin g b) → Moves p (Outside s l b g) c c 0 (Outside (p.sigma_step s c) (p.left_step l c) d Open)
+  copied : {s l b d c : ℕ} {g : Gap} → IsByte c → d < p.back_count → p.back_step d c ≡ b → IsTrue (p.sigma_live (p.sigma_step s c)) → MayPass p.manner (p.left_accepts l) (p.may_begin g b) → Moves p (Outside s l b g) c c 0 (Outside (p.sigma_step s c) (p.left_step l c) d Open)
   -- begin a rewrite
   enter : {s l b : ℕ} {g : Gap} → IsTrue (p.left_accepts l) → IsTrue (p.may_begin g b) → Moves p (Outside s l b g) 0 0 0 (Inside s l b p.tau.start (Fresh g))
   -- go on by an arc of tau
-  walk : {s l b d q : ℕ} {h : Held} {a : Arc} (k : ℕ) → IsArc p.tau.arcs q k a → a.input ≤ 255 → d < p.back_count → moved p.back_step d a.input ≡ b → Moves p (Inside s l b q h) a.input a.output a.weight (Inside (moved p.sigma_step s a.input) (moved p.left_step l a.output) d a.next (held_after h a.input))
+  walk : {s l b d q : ℕ} {h : Held} {a : Arc} (k : ℕ) → IsArc p.tau.arcs q k a → a.input ≤ 255 → d < p.back_count → moved p.back_step d a.input ≡ b → IsTrue (p.sigma_live (moved p.sigma_step s a.input)) → Moves p (Inside s l b q h) a.input a.output a.weight (Inside (moved p.sigma_step s a.input) (moved p.left_step l a.output) d a.next (held_after h a.input))
   -- end a rewrite before the right context
   leave : {s l b q w : ℕ} {h : Held} {g : Gap} → final_of p.tau.finals q ≡ Some w → IsTrue (p.right_accepts b) → gap_left h ≡ Some g → Moves p (Inside s l b q h) 0 0 w (Outside s l b g)
 

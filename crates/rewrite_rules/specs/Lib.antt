@@ -11,3 +11,4 @@ pub mod Befores
 pub mod Tables
 pub mod Steps
 pub mod Drawn
+pub mod Begun

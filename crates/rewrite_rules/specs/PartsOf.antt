@@ -1,5 +1,6 @@
 -- The parts of the machine from three automata.
-use Rattle.std.specs.Prelude.{◌<◌, ℕ, length, get_or, Bool, false, ◌&&◌, ◌||◌}
+use Rattle.std.specs.Prelude.{◌≡◌, ◌<◌, ℕ, List, length, get_or, Bool, true, false, ◌&&◌, ◌||◌}
+use Rattle.weighted_relations.specs.Relations.{IsByte}
 use Rattle.weighted_relations.specs.Machines.{Machine}
 use Rattle.acceptor_ops.specs.Tables.{Table, step_of, IsTotal}
 use Rattle.rewrite_rules.specs.Bimachine.{Parts}
@@ -22,12 +23,17 @@ abbrev pub begins_of : Table → Bool → Gap → ℕ → Bool
 begins_of d inserts Open b = accepts_at d b || (inserts && right_of d b)
 begins_of d inserts Shut b = accepts_at d b
 
+-- whether a state is marked as live
+abbrev pub live_at : List Bool → ℕ → Bool
+live_at live s = get_or live s true
+
 abbrev pub parts : Machine → Automata → Parts
 parts m t = record {
   tau = m;
   sigma_start = t.sigma.start;
   sigma_step = step_of t.sigma;
   sigma_accepts = accepts_at t.sigma;
+  sigma_live = live_at t.live.items;
   left_start = t.left_start;
   left_step = step_of t.left;
   left_accepts = accepts_at t.left;
@@ -39,9 +45,20 @@ parts m t = record {
   manner = manner_of t.mode;
 }
 
+-- no byte leads on from the state, and it does not accept
+pub record IsDead (d : Table) (s : ℕ) : Type 0 where
+  pub accepts : accepts_at d s ≡ false
+  pub stays : (c : ℕ) → IsByte c → step_of d s c ≡ s
+
+-- a state that is not marked as live is dead
+pub record AreLive (d : Table) (live : List Bool) : Type 0 where
+  pub count : length live ≡ length d.next
+  pub dead : (s : ℕ) → live_at live s ≡ false → IsDead d s
+
 -- what holds of each three automata
 pub record AreSound (t : Automata) : Type 0 where
   pub sigma : IsTotal t.sigma
+  pub live : AreLive t.sigma t.live.items
   pub left : IsTotal t.left
   pub back : IsTotal t.back
   pub left_start : t.left_start < length t.left.next

@@ -22,6 +22,7 @@ pub record Ahead (tau right : Relation) (g : Gap) (r : List ℕ) : Type 0 where
 
 pub record Stands (p : Parts) (L R S : Relation) : Type 0 where
   pub sigma : (x : List ℕ) → IsPlain x → IsTrue (p.sigma_accepts (run p.sigma_step p.sigma_start x)) ↔ Accepts S x
+  pub sigma_live : (s : ℕ) (x : List ℕ) → IsPlain x → IsTrue (p.sigma_accepts (run p.sigma_step s x)) → IsTrue (p.sigma_live s)
   pub sigma_plain : (x : List ℕ) → Accepts S x → IsPlain x
   pub tau_input : (u v : List ℕ) (w : ℕ) → Reads p.tau u v w → IsPlain u
   pub tau_output : (u v : List ℕ) (w : ℕ) → Reads p.tau u v w → IsPlain v

@@ -8,6 +8,7 @@ use Rattle.rewrite_rules.specs.Moves.{moved}
 use Rattle.rewrite_rules.specs.Bimachine.{Parts, Moves, MayPass, held_after, gap_left}
 use Rattle.rewrite_rules.specs.Classes.{first}
 use Rattle.rewrite_rules.specs.Befores.{before_at}
+use Rattle.rewrite_rules.specs.PartsOf.{live_at}
 use Rattle.rewrite_rules.specs.declared.arcs.Step.{Step}
 use Rattle.rewrite_rules.specs.declared.arcs.Place.{Place}
 use Rattle.rewrite_rules.specs.declared.arcs.Tables.{Tables}
@@ -56,8 +57,12 @@ abbrev pub copied_to : Tables → Place → ℕ → ℕ → Spot
 copied_to t at n d = Outside (step_of t.automata.sigma at.sigma (first t.classes n)) (step_of t.automata.left at.left (first t.classes n)) d Open
 
 -- the copies of the bytes of a class
+abbrev pub CopyOn : Tables → Place → ℕ → Step → Type 0
+CopyOn t at n = Listed (before_at t.befores n at.back) (λ d. CopyTo (get_or t.classes.members n []) (copied_to t at n d)) (length (before_at t.befores n at.back))
+
+-- these, where sigma goes on
 abbrev pub CopyOf : Tables → Place → ℕ → Step → Type 0
-CopyOf t at n = Listed (before_at t.befores n at.back) (λ d. CopyTo (get_or t.classes.members n []) (copied_to t at n d)) (length (before_at t.befores n at.back))
+CopyOf t at n x = IsTrue (live_at t.automata.live.items (step_of t.automata.sigma at.sigma (first t.classes n))) × CopyOn t at n x
 
 -- the copies, where they may be
 abbrev pub Pass : Parts → Tables → Place → Gap → Step → Type 0
@@ -67,12 +72,16 @@ abbrev pub Enter : Parts → Place → Gap → Step → Type 0
 Enter p at g x = (IsTrue (p.left_accepts at.left) × IsTrue (p.may_begin g at.back)) × (x ≡ empty_step 0 (Inside at.sigma at.left at.back p.tau.start (Fresh g)))
 
 -- the moves by an arc of tau to the first n of these backward states
-abbrev pub WalkFrom : Parts → Place → Held → Arc → List ℕ → ℕ → Step → Type 0
-WalkFrom p at h a sources = Listed sources (λ d x. x ≡ walk_step p at h a d)
+abbrev pub WalkOn : Parts → Place → Held → Arc → List ℕ → ℕ → Step → Type 0
+WalkOn p at h a sources = Listed sources (λ d x. x ≡ walk_step p at h a d)
+
+-- these, where sigma goes on
+abbrev pub WalkFrom : Parts → Place → Held → Arc → List ℕ → Step → Type 0
+WalkFrom p at h a sources x = IsTrue (p.sigma_live (moved p.sigma_step at.sigma a.input)) × WalkOn p at h a sources (length sources) x
 
 -- the moves by an arc of tau
 abbrev pub WalkBy : Parts → Place → Held → Arc → Step → Type 0
-WalkBy p at h a x = (d : ℕ) × (a.input ≤ 255) × (d < p.back_count) × (moved p.back_step d a.input ≡ at.back) × (x ≡ walk_step p at h a d)
+WalkBy p at h a x = (d : ℕ) × (a.input ≤ 255) × (d < p.back_count) × (moved p.back_step d a.input ≡ at.back) × IsTrue (p.sigma_live (moved p.sigma_step at.sigma a.input)) × (x ≡ walk_step p at h a d)
 
 -- the moves by the first n of these arcs of tau
 abbrev pub Walk : Parts → Place → List Arc → Held → ℕ → Step → Type 0

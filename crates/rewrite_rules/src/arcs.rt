@@ -6,7 +6,7 @@ ghost use Rattle.rewrite_rules.specs.Moves.{moved};
 ghost use Rattle.rewrite_rules.specs.Bimachine.{held_after, gap_left};
 ghost use Rattle.rewrite_rules.specs.PartsOf.{parts, InRange};
 ghost use Rattle.rewrite_rules.specs.Tables.{Ready};
-ghost use Rattle.rewrite_rules.specs.Steps.{Below, CopyTo, CopyOf, Pass, Enter, WalkFrom, WalkBy, Walk, Leave, IsMove, copy_arc};
+ghost use Rattle.rewrite_rules.specs.Steps.{Below, CopyTo, CopyOf, CopyOn, Pass, Enter, WalkFrom, WalkOn, WalkBy, Walk, Leave, IsMove, copy_arc};
 ghost use Rattle.rewrite_rules.specs.Drawn.{Draws};
 
 use crate::automata::Automata;
@@ -230,7 +230,7 @@ fn copies(
     Ok(())
 }
 
-/// The copies of the bytes of a class, which go to the same places.
+/// The copies of the bytes of a class, where sigma goes on.
 fn copies_of(
     tau: &Fst,
     t: &Tables,
@@ -245,6 +245,30 @@ fn copies_of(
     requires back { at.back < length t.now.automata.back.next }
     requires class { class < length t.now.classes.members }
     ensures drawn { OnOk result (Draws (CopyOf t.now at class) spots.old spots.new row.old.items row.new.items) }
+{
+    let byte = t.classes.first(class);
+    let sigma = t.automata.sigma.step(at.sigma, byte);
+    if t.automata.goes_on(sigma) {
+        copies_on(tau, t, at, class, spots, row)?;
+    }
+    Ok(())
+}
+
+/// The copies of the bytes of a class, which go to the same places.
+fn copies_on(
+    tau: &Fst,
+    t: &Tables,
+    at: Place,
+    class: usize,
+    spots: &mut StateTable<Spot>,
+    row: &mut Vec<Arc>,
+) -> Result<(), AllocError>
+    requires ready { Ready tau.now t.now }
+    requires sigma { at.sigma < length t.now.automata.sigma.next }
+    requires left { at.left < length t.now.automata.left.next }
+    requires back { at.back < length t.now.automata.back.next }
+    requires class { class < length t.now.classes.members }
+    ensures drawn { OnOk result (Draws (CopyOn t.now at class) spots.old spots.new row.old.items row.new.items) }
 {
     let byte = t.classes.first(class);
     let sigma = t.automata.sigma.step(at.sigma, byte);
@@ -402,8 +426,33 @@ fn walks_by(
     Ok(())
 }
 
-/// The moves by one arc of tau, after which the backward automaton is in these states.
+/// The moves by one arc of tau, after which the backward automaton is in these states, where sigma goes on.
 fn walks_from(
+    tau: &Fst,
+    t: &Tables,
+    at: Place,
+    held: Held,
+    arc: Arc,
+    sources: &[usize],
+    spots: &mut StateTable<Spot>,
+    row: &mut Vec<Arc>,
+) -> Result<(), AllocError>
+    requires ready { Ready tau.now t.now }
+    requires sigma { at.sigma < length t.now.automata.sigma.next }
+    requires left { at.left < length t.now.automata.left.next }
+    requires input { arc.input ≤ 257 }
+    requires output { arc.output ≤ 257 }
+    ensures drawn { OnOk result (Draws (WalkFrom (parts tau.now t.now.automata) at held arc sources.now) spots.old spots.new row.old.items row.new.items) }
+{
+    let sigma = after(&t.automata.sigma, at.sigma, arc.input);
+    if t.automata.goes_on(sigma) {
+        walks_on(tau, t, at, held, arc, sources, spots, row)?;
+    }
+    Ok(())
+}
+
+/// The moves by one arc of tau, after which the backward automaton is in these states.
+fn walks_on(
     tau: &Fst,
     t: &Tables,
     at: Place,
@@ -417,7 +466,7 @@ fn walks_from(
     requires left { at.left < length t.now.automata.left.next }
     requires input { arc.input ≤ 257 }
     requires output { arc.output ≤ 257 }
-    ensures drawn { OnOk result (Draws (WalkFrom (parts tau.now t.now.automata) at held arc sources.now (length sources.now)) spots.old spots.new row.old.items row.new.items) }
+    ensures drawn { OnOk result (Draws (WalkOn (parts tau.now t.now.automata) at held arc sources.now (length sources.now)) spots.old spots.new row.old.items row.new.items) }
 {
     let sigma = after(&t.automata.sigma, at.sigma, arc.input);
     let left = after(&t.automata.left, at.left, arc.output);

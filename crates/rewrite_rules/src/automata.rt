@@ -7,10 +7,12 @@ ghost use Rattle.acceptor_ops.specs.Tables.{Accepts};
 ghost use Rattle.rewrite_rules.specs.Bimachine.{MayPass};
 ghost use Rattle.rewrite_rules.specs.Languages.{Heads, Fronts, LeftText, BackText, Speaks};
 ghost use Rattle.rewrite_rules.specs.Manners.{manner_of};
-ghost use Rattle.rewrite_rules.specs.PartsOf.{right_of, begins_of, accepts_at, AreSound};
+ghost use Rattle.rewrite_rules.specs.PartsOf.{right_of, begins_of, accepts_at, live_at, AreSound};
 
 use crate::any_texts::any_text;
+use crate::lives::live_states;
 use crate::modes::RewriteMode;
+use crate::shared_ends::share_ends;
 use crate::spots::Gap;
 use acceptor_ops::{Dfa, determinise, minus, reverse_dfa};
 use fst_core::{Fst, concat, reads_empty, text, trim, union};
@@ -21,6 +23,8 @@ use std::alloc::{AllocError, Global};
 #[derive(Drop)]
 pub(crate) struct Automata {
     pub sigma: Dfa,
+    /// Marks of the states of sigma's automaton, without those from where no text is accepted any more.
+    pub live: Vec<bool>,
     pub left: Dfa,
     pub left_start: usize,
     pub back: Dfa,
@@ -47,12 +51,14 @@ impl Automata {
         let left = left_automaton(alloc, left)?;
         let back = back_automaton(alloc, tau, right)?;
         let sigma = determinise(alloc, sigma)?;
+        let live = live_states(alloc, &sigma)?;
         let _first = sigma.start();
         let inserts = reads_empty(alloc, tau)?;
         let left_start = left.step(left.start(), 256);
         let back_start = back.step(back.start(), 257);
         Ok(Automata {
             sigma,
+            live,
             left,
             left_start,
             back,
@@ -60,6 +66,14 @@ impl Automata {
             inserts,
             mode,
         })
+    }
+
+    /// Whether sigma may accept yet.
+    pub(crate) fn goes_on(&self, sigma: usize) -> bool
+        requires sigma { sigma < length self.now.live.items }
+        ensures value { result ≡ live_at self.now.live.items sigma }
+    {
+        self.live[sigma]
     }
 
     /// Whether the unread text starts with the right context.
@@ -131,7 +145,8 @@ fn fronts(alloc: Global, tau: &Fst) -> Result<Fst, AllocError>
     ensures readings { IfOk result (λ m. Same (Reads m) (Fronts (Reads tau.now))) }
 {
     let mut parts = Vec::new(alloc);
-    parts.push(heads(alloc, tau)?)?;
+    let heads = heads(alloc, tau)?;
+    parts.push(share_ends(alloc, &heads)?)?;
     parts.push(text(alloc, &[256])?)?;
     let m = union(alloc, &parts)?;
     Ok(m)
@@ -143,7 +158,7 @@ fn back_automaton(alloc: Global, tau: &Fst, right: &Fst) -> Result<Dfa, AllocErr
 {
     let mut parts = Vec::new(alloc);
     parts.push(fronts(alloc, tau)?)?;
-    parts.push(trim(alloc, right)?)?;
+    parts.push(share_ends(alloc, right)?)?;
     parts.push(any_text(alloc)?)?;
     let all = concat(alloc, &parts)?;
     let d = reverse_dfa(alloc, &all)?;

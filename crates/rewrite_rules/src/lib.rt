@@ -20,9 +20,12 @@ mod arcs;
 mod automata;
 mod befores;
 mod classes;
+mod few_readings;
+mod lives;
 mod machines;
 mod modes;
 mod rewrites;
+mod shared_ends;
 mod spots;
 
 pub use modes::RewriteMode;

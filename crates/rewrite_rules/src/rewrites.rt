@@ -16,7 +16,8 @@ use crate::befores::Befores;
 use crate::classes::Classes;
 use crate::machines::machine;
 use crate::modes::RewriteMode;
-use fst_core::{Fst, trim};
+use crate::shared_ends::share_ends;
+use fst_core::{Fst, reads_empty, trim};
 use std::alloc::{AllocError, Global};
 
 /// The transducer of a context rewrite, left to right.
@@ -40,12 +41,31 @@ pub fn rewrite(
     ensures top { IfOk result (λ m. top_of m ≤ top_of tau.now) }
     ensures states { IfOk result IsTrimmed }
 {
-    let all = rewrite_at_gaps(alloc, tau, left, right, sigma, mode)?;
+    let shared = shared_tau(alloc, tau, right)?;
+    let all = rewrite_at_gaps(alloc, &shared, left, right, sigma, mode)?;
     let m = trim(alloc, &all)?;
     Ok(m)
 }
 
-/// The same, with dead states, and also for a tau that reads the empty text: its rewrite then comes once at most at
+/// So many states are few.
+const FEW: usize = 256;
+
+/// The same readings of tau, whose inputs share their ends where there are many states and any text may follow.
+///
+/// A path of the answer may write before it reads, so the machine tries each reading where one begins. Otherwise it has
+/// each end of a reading beside each text that may follow, which are fewer only where the right context tells much.
+fn shared_tau(alloc: Global, tau: &Fst, right: &Fst) -> Result<Fst, AllocError>
+    ensures readings { IfOk result (λ m. Same (Reads m) (Reads tau.now)) }
+    ensures top { IfOk result (λ m. top_of m ≤ top_of tau.now) }
+{
+    if tau.len() >= FEW && reads_empty(alloc, right)? {
+        share_ends(alloc, tau)
+    } else {
+        trim(alloc, tau)
+    }
+}
+
+/// The rewrite, with dead states, and also for a tau that reads the empty text: its rewrite then comes once at most at
 /// each place between what was written and what is unread.
 fn rewrite_at_gaps(
     alloc: Global,

@@ -1,16 +1,24 @@
-use Rattle.std.proofs.Common.{◌+◌, ◌++◌, ◌∷◌, [], false, get_or, refl, sym, subst, ap, ◌∙◌}
-use Rattle.acceptor_ops.specs.Alike.{Classing, ClassesTo, next_count}
-use Rattle.acceptor_ops.proofs.Labels.{classes_none, classes_more}
+use Rattle.std.proofs.Common.{◌≡◌, ◌+◌, [], ℕ, List, get_or, length, subst, sym, ◌∙◌, arith}
+use Rattle.state_table.specs.Numbers.{Numbers}
+use Rattle.acceptor_ops.specs.Alike.{Classing, AreNumbered}
+use Rattle.acceptor_ops.proofs.Labels.{NumberedTo, numbered, numbered_more}
 use Rattle.acceptor_ops.proofs.classes.classed.Goals as goal
 
-pub loop-mark-init : goal.loop-mark-init
-loop-mark-init c = subst (λ v. ClassesTo c.args.seen.now 0 (record { classes = v; count = 1 })) (sym c.new-of.ensures.items) (classes_none c.args.seen.now)
+pub loop-label-preserved : goal.loop-label-preserved
+loop-label-preserved c =
+    let steps = c.args.steps.now in
+    let l = c.loop-label.label in
+    let key : c.new.result ≡ get_or steps l [] = c.new.ensures.value ∙ c.in_ok-list.ensures.items ∙ c.get.ensures.value in
+    let add : Numbers c.loop-label.lists c.number.new.self (get_or steps l []) c.in_ok-number.field-0 = subst (λ (v : List ℕ). Numbers c.loop-label.lists c.number.new.self v c.in_ok-number.field-0) key c.in_ok-number.ensures.number in
+    subst (NumberedTo steps (l + 1) c.number.new.self) (sym {A = List ℕ} c.in_ok-push.ensures.items)
+    (numbered_more steps l c.loop-label.lists c.number.new.self c.loop-label.of.items c.in_ok-number.field-0 c.loop-label.invariant add)
 
-pub loop-mark-preserved : goal.loop-mark-preserved
-loop-mark-preserved c =
-    let z : Classing = record { classes = c.loop-mark.of.items; count = c.loop-mark.count } in
-    let b = get_or c.args.seen.now c.loop-mark.mark-index false in
-    subst (λ n. let v : Classing = record { classes = c.push.new.self.items; count = n } in ClassesTo c.args.seen.now (c.loop-mark.mark-index + 1) v) (sym c.count_if-count.ensures.value)
-    (subst (λ r. let v : Classing = record { classes = r; count = next_count b c.loop-mark.count } in ClassesTo c.args.seen.now (c.loop-mark.mark-index + 1) v)
-    (sym (c.in_ok-push.ensures.items ∙ ap (λ n. c.loop-mark.of.items ++ n ∷ []) c.class_if.ensures.value))
-    (classes_more c.args.seen.now c.loop-mark.mark-index z c.loop-mark.invariant b refl))
+pub returns : goal.returns
+returns c =
+    let steps = c.args.steps.now in
+    let e : c.loop-label.label ≡ length steps = (let n = c.len-label-end.ensures.count in omega arith) in
+    let had : NumberedTo steps (length steps) c.loop-label.lists c.loop-label.of.items = subst (λ k. NumberedTo steps k c.loop-label.lists c.loop-label.of.items) e c.loop-label.invariant in
+    record {
+      classes = subst (λ n. let z : Classing = record { classes = c.loop-label.of.items; count = n } in AreNumbered steps (length steps) z) (sym {A = ℕ} c.len.ensures.count)
+          (numbered steps (length steps) c.loop-label.lists c.loop-label.of.items had);
+    }

@@ -1,5 +1,5 @@
-use Rattle.acceptor_ops.specs.Alike.{ClassesTo}
+use Rattle.acceptor_ops.proofs.Labels.{NumberedTo}
 use Rattle.acceptor_ops.proofs.classes.classed.Given as goal
 
-abbrev pub invariant-loop-mark : goal.invariant-loop-mark
-invariant-loop-mark l = ClassesTo l.seen l.mark-index (record { classes = l.of.items; count = l.count })
+abbrev pub invariant-loop-label : goal.invariant-loop-label
+invariant-loop-label l = NumberedTo l.steps l.label l.lists l.of.items

@@ -1,4 +1,4 @@
-use Rattle.std.proofs.Common.{◌≡◌, ◌∷◌, ◌≤◌, [], length, arith, ap, ◌∙◌}
+use Rattle.std.proofs.Common.{◌≡◌, ◌∷◌, ◌≤◌, [], arith, ap, ◌∙◌}
 use Rattle.rewrite_rules.specs.PartsOf.{parts}
 use Rattle.rewrite_rules.specs.Befores.{before_at}
 use Rattle.rewrite_rules.specs.Steps.{WalkFrom, WalkBy}
@@ -12,7 +12,7 @@ returns-in_ok-walks_from c =
     let e : c.args.arc.input ≡ 0 = omega arith in
     record {
       drawn =
-          draws_same (WalkFrom p c.args.at c.args.held c.args.arc (c.args.at.back ∷ []) 1) (WalkBy p c.args.at c.args.held c.args.arc) c.args.spots.now c.walks_from.new.spots c.args.row.now.items c.walks_from.new.row.items
+          draws_same (WalkFrom p c.args.at c.args.held c.args.arc (c.args.at.back ∷ [])) (WalkBy p c.args.at c.args.held c.args.arc) c.args.spots.now c.walks_from.new.spots c.args.row.now.items c.walks_from.new.row.items
           (walks_empty c.args.tau.now c.args.t.now c.requires.ready c.args.at c.args.held c.args.arc e c.requires.back) c.in_ok-walks_from.ensures.drawn;
     }
 
@@ -25,6 +25,6 @@ returns-in_ok-walks_from-2 c =
     let sources = c.get-sources.result.now in
     record {
       drawn =
-          draws_same (WalkFrom p c.args.at c.args.held c.args.arc sources (length sources)) (WalkBy p c.args.at c.args.held c.args.arc) c.args.spots.now c.walks_from-then-arc-le255.new.spots c.args.row.now.items c.walks_from-then-arc-le255.new.row.items
+          draws_same (WalkFrom p c.args.at c.args.held c.args.arc sources) (WalkBy p c.args.at c.args.held c.args.arc) c.args.spots.now c.walks_from-then-arc-le255.new.spots c.args.row.now.items c.walks_from-then-arc-le255.new.row.items
           (walks_label c.args.tau.now t c.requires.ready c.args.at c.args.held c.args.arc sources low high (c.get-sources.ensures.value ∙ ap (λ n. before_at t.befores n c.args.at.back) c.of.ensures.value)) c.in_ok-walks_from-2.ensures.drawn;
     }

@@ -22,4 +22,4 @@ returns-clause-readings c =
     let said = c.in_ok-automata.ensures in
     subst (λ m. Same (Reads c.in_ok-m.m) (GoesWhole (Reads tau) L R S (manner_of m))) said.mode
     (same_trans (Reads c.in_ok-m.m) (Run (bimachine (parts tau t)) Hub) (GoesWhole (Reads tau) L R S (manner_of t.mode)) c.in_ok-m.ensures.readings
-    (every_run (parts tau t) L R S (stands tau t L R S said.texts c.requires.conditions said.sound.back)))
+    (every_run (parts tau t) L R S (stands tau t L R S said.texts c.requires.conditions said.sound.back said.sound.live)))

@@ -1,7 +1,9 @@
--- A rewrite of relations with the same readings has the same readings.
-use Rattle.std.proofs.Common.{ℕ, ◌+◌, List, [], ◌∷◌, ◌++◌}
-use Rattle.weighted_relations.specs.Relations.{Relation, Same, IsInput}
-use Rattle.weighted_relations.specs.RelationLaws.{same_sym, same_accepts}
+-- Relations with the same readings serve alike.
+use Rattle.std.proofs.Common.{ℕ, List, [], ◌∷◌, ◌++◌, sym, subst}
+use Rattle.std.specs.Prelude.{reverse}
+use Rattle.std.proofs.lemmas.List.{reverse-reverse}
+use Rattle.weighted_relations.specs.Relations.{Relation, Same, IsInput, IsUnmarked, Reversed}
+use Rattle.weighted_relations.specs.RelationLaws.{same_sym, same_trans, same_reversed, same_accepts}
 use Rattle.weighted_relations.specs.Rewriting.{Manner, obligatory, optional, Begins, MayCopy, Rewrites, stop_here, copy, rewrite, Rewritten}
 
 pub input_to : (R S : Relation) → Same R S → (x : List ℕ) → IsInput R x → IsInput S x
@@ -45,3 +47,18 @@ same_rewritten tau left right sigma tau' left' right' sigma' manner f g h k x y 
   rewritten_to tau left right sigma tau' left' right' sigma' manner f g h k x y w,
   rewritten_to tau' left' right' sigma' tau left right sigma manner (same_sym tau tau' f) (same_sym left left' g) (same_sym right right' h) (same_sym sigma sigma' k) x y w,
 )
+
+pub unmarked_to : (R S : Relation) → Same R S → IsUnmarked R → IsUnmarked S
+unmarked_to R S f h x y w r = h x y w ((f x y w).1 r)
+
+reversed_twice : (R : Relation) → Same (Reversed (Reversed R)) R
+reversed_twice R x y w = (
+  λ h. subst (λ v. R x v w) (reverse-reverse y) (subst (λ v. R v (reverse (reverse y)) w) (reverse-reverse x) h),
+  λ h. subst (λ v. R v (reverse (reverse y)) w) (sym (reverse-reverse x)) (subst (λ v. R x v w) (sym (reverse-reverse y)) h),
+)
+
+-- what is turned round, listed, and turned round again
+pub turned_twice : (R back tree listed m : Relation) → Same back (Reversed R) → Same back listed → Same tree listed → Same m (Reversed tree) → Same m R
+turned_twice R back tree listed m turned f g again =
+    let same : Same tree (Reversed R) = same_trans tree listed (Reversed R) g (same_trans listed back (Reversed R) (same_sym back listed f) turned) in
+    same_trans m (Reversed tree) R again (same_trans (Reversed tree) (Reversed (Reversed R)) R (same_reversed tree (Reversed R) same) (reversed_twice R))
