@@ -1,0 +1,9 @@
+pub mod Alike
+pub mod Firsts
+pub mod Joinings
+pub mod LineAnswers
+pub mod Once
+pub mod Rules
+pub mod Sayings
+pub mod Sources
+pub mod Verbalised

@@ -1,0 +1,8 @@
+use Rattle.std.proofs.Common.{take}
+use Rattle.token_record.specs.Meaning.{token_trees}
+use Rattle.normaliser.specs.Loads.{verbaliser_of}
+use Rattle.normaliser.specs.Parts.{AreJoined}
+use Rattle.normaliser.proofs.normalisers.Normaliser.joined.Given as goal
+
+abbrev pub invariant-loop-i : goal.invariant-loop-i
+invariant-loop-i l = AreJoined (verbaliser_of l.self) (token_trees (take l.i l.tokens)) l.words.items

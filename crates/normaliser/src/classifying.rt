@@ -1,0 +1,57 @@
+//! What the classifier says of a line.
+
+ghost use Rattle.std.specs.Prelude.{◌≡◌, ◌≤◌, All, IfNone, IfOk, IfSome, length};
+ghost use Rattle.weighted_relations.specs.Relations.{IsLabel, IsUnmarked};
+ghost use Rattle.normaliser.specs.Lines.{HasNoZero};
+ghost use Rattle.normaliser.specs.Parts.{IsOutput, IsUnsearched, ReadsOf};
+
+use crate::faults::LineFault;
+use crate::searching::output_of;
+use fst_core::text;
+use state_tuples::Cascade;
+use std::alloc::{AllocError, Global};
+
+/// How many bytes a line may have.
+const LONGEST_LINE: usize = 16_384;
+
+/// Why a line isn't looked up, where it isn't.
+pub(crate) fn fault_of(line: &[u8]) -> Option<LineFault>
+    ensures fault { IfSome result (IsUnsearched line.now) }
+    ensures no_zero { IfNone result (HasNoZero line.now) }
+    ensures short { IfNone result (length line.now ≤ 16384) }
+{
+    if let Some(at) = line.iter().position(|b| *b == 0) {
+        return Some(LineFault::NulByte { at: at as u64 });
+    }
+    if line.len() > LONGEST_LINE {
+        return Some(LineFault::LongLine);
+    }
+    None
+}
+
+/// The output of the least reading of a line, if there is one.
+pub(crate) fn classified(
+    alloc: Global,
+    classifier: &Cascade,
+    line: &[u8],
+) -> Result<Option<Vec<u8>>, AllocError>
+    requires unmarked { IsUnmarked (ReadsOf classifier.now) }
+    requires no_zero { HasNoZero line.now }
+    ensures { IfOk result (IsOutput (ReadsOf classifier.now) (λ x. x ≡ line.now)) }
+{
+    let source = text(alloc, &labels(alloc, line)?)?;
+    output_of(alloc, classifier, &source)
+}
+
+/// The bytes of a line as labels.
+fn labels(alloc: Global, line: &[u8]) -> Result<Vec<u16>, AllocError>
+    requires { HasNoZero line.now }
+    ensures labels { IfOk result (λ v. v.items ≡ line.now) }
+    ensures fit { IfOk result (λ v. All IsLabel v.items) }
+{
+    let mut labels = Vec::with_capacity(alloc, line.len())?;
+    for b in line {
+        labels.push(*b as u16)?;
+    }
+    Ok(labels)
+}

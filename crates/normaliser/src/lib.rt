@@ -1,0 +1,23 @@
+//! What a line of text says: its tokens by a classifier, and their words by a verbaliser.
+//!
+//! [`load`] builds the rules of both cascades, [`Normaliser::classify_line`] gives the classifier's output for a line, and
+//! [`Normaliser::speak_line`] its words.
+//!
+//! The contracts speak of relations alone. `specs/Loads.antt` says which rules are refused, `specs/Lines.antt` what a line is
+//! classified as, and `specs/Words.antt` which words its tokens have: each record's are the output of the least reading of the
+//! verbaliser's relation over all of the record's texts. `specs/Parts.antt` speaks of the private calls alone.
+#![tactic(auto)]
+
+mod classifying;
+mod faults;
+mod lines;
+mod loading;
+mod normalisers;
+mod preparing;
+mod searching;
+mod sharing;
+mod verbalising;
+
+pub use faults::{LineFault, LoadFault};
+pub use loading::load;
+pub use normalisers::{Normaliser, Spoken};

@@ -1,0 +1,64 @@
+//! What a normaliser says of a line.
+
+ghost use Rattle.std.specs.Prelude.{All, IfOk};
+ghost use Rattle.token_record.specs.Meaning.{token_tree};
+ghost use Rattle.token_record.specs.Writable.{TokenHasNoZero};
+ghost use Rattle.normaliser.specs.Lines.{Classified, IsSaid};
+ghost use Rattle.normaliser.specs.Loads.{classifier_of, verbaliser_of};
+ghost use Rattle.normaliser.specs.Parts.{AreTokens};
+ghost use Rattle.normaliser.specs.Words.{Words};
+
+use crate::classifying::{classified, fault_of};
+use crate::faults::LineFault;
+use crate::normalisers::{Normaliser, Spoken};
+use std::alloc::Global;
+use token_record::{Token, TokenFault, read_tokens};
+
+impl Normaliser {
+    /// The classifier's output for a line, or the first of the line's faults `NulByte`, `LongLine` and `NoPath`. An empty line gives
+    /// no bytes and isn't searched.
+    pub fn classify_line(&self, alloc: Global, line: &[u8]) -> Result<Spoken, LineFault>
+        ensures { IsSaid (Classified (classifier_of self.now)) line.now result }
+    {
+        if line.is_empty() {
+            return Ok(Spoken {
+                words: Vec::new(alloc),
+            });
+        }
+        if let Some(fault) = fault_of(line) {
+            return Err(fault);
+        }
+        match classified(alloc, &self.classifier, line)? {
+            Some(words) => Ok(Spoken { words }),
+            None => Err(LineFault::NoPath),
+        }
+    }
+
+    /// The words of a line, or its first fault. The words of its tokens that have at least one byte are joined by single spaces. An
+    /// empty line gives no bytes and isn't searched.
+    pub fn speak_line(&self, alloc: Global, line: &[u8]) -> Result<Spoken, LineFault>
+        ensures { IsSaid (Words (classifier_of self.now) (verbaliser_of self.now)) line.now result }
+    {
+        if line.is_empty() {
+            return Ok(Spoken {
+                words: Vec::new(alloc),
+            });
+        }
+        let text = self.classify_line(alloc, line)?.words;
+        let tokens = tokens_of(alloc, &text)?;
+        let words = self.words_of(alloc, &tokens)?;
+        Ok(Spoken { words })
+    }
+}
+
+/// The tokens that a text is.
+fn tokens_of(alloc: Global, text: &[u8]) -> Result<Vec<Token>, LineFault>
+    ensures tokens { AreTokens text.now result }
+    ensures no_zero { IfOk result (λ tokens. All (λ t. TokenHasNoZero (token_tree t)) tokens.items) }
+{
+    match read_tokens(alloc, text) {
+        Ok(tokens) => Ok(tokens),
+        Err(TokenFault::NotTokens { token }) => Err(LineFault::NotTokens { token }),
+        Err(TokenFault::Memory) => Err(LineFault::Memory),
+    }
+}
