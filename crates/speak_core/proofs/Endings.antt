@@ -7,16 +7,15 @@ use Rattle.norm_base.specs.Bytes.{AppendsPrefix}
 use Rattle.norm_base.specs.Counts.{capped}
 use Rattle.norm_base.specs.Files.{Files}
 use Rattle.norm_base.proofs.Front.{prefix_none}
-use Rattle.weighted_relations.specs.Expressions.{Expression, Rel}
-use Rattle.weighted_relations.specs.Relations.{Cascade}
 use Rattle.text_lines.specs.Lines.{lines}
-use Rattle.speak_core.specs.Accepted.{Accepted, Asks, IsRefusal, spoken_by, refused}
-use Rattle.speak_core.specs.Commands.{setup_name}
+use Rattle.speak_core.specs.Accepted.{Accepted, Asks, IsRefusal, OrText, Refused as Refuses}
+use Rattle.speak_core.specs.Commands.{command_in}
 use Rattle.speak_core.specs.Inputs.{GaveMore, GaveTooMuch, IfGaveTooMuch}
 use Rattle.speak_core.specs.Loaded.{StopsAs}
 use Rattle.speak_core.specs.Owed.{Owed, SpeaksAll, SpeaksInput}
 use Rattle.speak_core.specs.Devices.{Observed, SinkSeen, SomeRose, NoneRose}
 use Rattle.speak_core.specs.Parts.{Speaks}
+use Rattle.speak_core.specs.Plans.{Plan, saying_of}
 use Rattle.speak_core.specs.Stops.{status_of, text_of, last_text, AllCounts, IsAccepted, IsEnd, IsRefusalStop}
 use Rattle.speak_core.specs.Told.{TellsLast, TellsTwice, TellsShortOf, TellsStop, MayTell, no_text, wrong_words, refusal, outside, too_long}
 use Rattle.speak_core.specs.declared.stop.Stop.{Stop}
@@ -131,12 +130,12 @@ is_refusal r n end (inl e) = subst (λ v. IsErrAnd v IsRefusalStop) (sym (stoppe
 is_refusal r n end (inr e) = let at = refused_at r n end e in subst (λ v. IsErrAnd v IsRefusalStop) (sym at.is) tt
 
 -- what was refused ends so, or by a fault of which this is known
-pub refused_end : (words : List (String Global)) (known : Option Files) (Rises : Type 0) (r : Result Bool Stop) (n : ℕ) → IsEnd n r → (r ≡ Err Words → setup_name words ≡ None) → (IsAccepted r → IfSome known (λ files. (text : List ℕ) → Asks words files (refused text) → ⊥))
-    → (r ≡ Err Outside → IfSome known (λ files. (text : List ℕ) → Asks words files (refused text) → Rises))
-    → IfSome known (λ files. (text : List ℕ) → Asks words files (refused text) → (n ≡ 3) ⊎ ((n ≡ 5) ⊎ ((n ≡ 4) × Rises)))
+pub refused_end : (words : List (String Global)) (known : Option Files) (Rises : Type 0) (r : Result Bool Stop) (n : ℕ) → IsEnd n r → (r ≡ Err Words → command_in words ≡ None) → (IsAccepted r → IfSome known (λ files. (text : List ℕ) → Refuses words files text → ⊥))
+    → (r ≡ Err Outside → IfSome known (λ files. (text : List ℕ) → Refuses words files text → Rises))
+    → IfSome known (λ files. (text : List ℕ) → Refuses words files text → (n ≡ 3) ⊎ ((n ≡ 5) ⊎ ((n ≡ 4) × Rises)))
 refused_end words None Rises r n end wrong accepted rises = tt
 refused_end words (Some files) Rises (Ok b) n end wrong accepted rises = λ text h. absurd (accepted tt text h)
-refused_end words (Some files) Rises (Err Words) n end wrong accepted rises = λ text h. absurd (let no_name : Some h.name ≡ None = sym h.is_command ∙ wrong refl in cc)
+refused_end words (Some files) Rises (Err Words) n end wrong accepted rises = λ text h. absurd (let no_name : Some h.command ≡ None = sym h.is_command ∙ wrong refl in cc)
 refused_end words (Some files) Rises (Err (Refused t)) n end wrong accepted rises = λ text h. elim end [ inl e ↦ inl e | inr e ↦ inr (inl e) ]
 refused_end words (Some files) Rises (Err Outside) n end wrong accepted rises = λ text h. elim end [ inl e ↦ inr (inr (e, rises refl text h)) | inr e ↦ inr (inl e) ]
 refused_end words (Some files) Rises (Err Memory) n end wrong accepted rises = λ text h. elim end [ inl e ↦ inr (inl e) | inr e ↦ inr (inl e) ]
@@ -190,14 +189,14 @@ speaks_at words d err r b is done kept = go d.before.shelf.files d.before.source
   go None left s = tt
   go (Some files) None s = tt
   go (Some files) (Some input) s = record {
-    expressions = s.expressions;
+    plan = s.plan;
     accepted = s.accepted;
-    speaks = subst (λ held. Speaks (Cascade Rel s.expressions) (lines input) d.before.out.held d.after.out.held d.before.err.held held b) (sym same) s.speaks;
+    speaks = subst (λ held. Speaks (saying_of s.plan) 1 (lines input) d.before.out.held d.after.out.held d.before.err.held held b) (sym same) s.speaks;
   }
 
 -- what is known of a run that stopped
 pub record Known (words : List (String Global)) (known : Option Files) (left : Option (List ℕ)) (d : Observed) (r : Result Bool Stop) : Type 0 where
-  pub wrong : r ≡ Err Words → setup_name words ≡ None
+  pub wrong : r ≡ Err Words → command_in words ≡ None
   pub refusals : IfErr r (λ s. IfSome known (λ files. StopsAs (Asks words files) s))
   pub rises : r ≡ Err Outside → SomeRose d
   pub long : r ≡ Err TooLong → GaveTooMuch left d.after.source.left
@@ -206,17 +205,17 @@ not_long : (input : List ℕ) (now : Option (List ℕ)) → length input ≤ 2 ^
 not_long input None l more = more
 not_long input (Some after) l more = omega (arith, l, more)
 
-named : (words : List (String Global)) (files : Files) (es : List Expression) → Accepted words files es → setup_name words ≡ None → ⊥
-named words files e a none = let no_name : Some a.name ≡ None = sym a.is_command ∙ none in cc
+named : (words : List (String Global)) (files : Files) (plan : Plan) → Accepted words files plan → command_in words ≡ None → ⊥
+named words files e a none = let no_name : Some a.command ≡ None = sym a.is_command ∙ none in cc
 
 pub complete_end : (words : List (String Global)) (known : Option Files) (left : Option (List ℕ)) (d : Observed) (r : Result Bool Stop) (n : ℕ) → IsEnd n r → Known words known left d r
-    → IfSome known (λ files. IfSome left (λ input. (es : List Expression) → Accepted words files es → length input ≤ 2 ^ 28 → (SomeRose d → ⊥) → (n ≤ 1) ⊎ (n ≡ 5)))
+    → IfSome known (λ files. IfSome left (λ input. (plan : Plan) → Accepted words files plan → length input ≤ 2 ^ 28 → (SomeRose d → ⊥) → (n ≤ 1) ⊎ (n ≡ 5)))
 complete_end words None left d r n end k = tt
 complete_end words (Some files) None d r n end k = tt
 complete_end words (Some files) (Some input) d (Ok true) n end k = λ e a l calm. inl (omega (arith, end))
 complete_end words (Some files) (Some input) d (Ok false) n end k = λ e a l calm. inl (omega (arith, end))
 complete_end words (Some files) (Some input) d (Err Words) n end k = λ e a l calm. absurd (named words files e a (k.wrong refl))
-complete_end words (Some files) (Some input) d (Err (Refused text)) n end k = λ e a l calm. absurd (let same : spoken_by e ≡ refused text.items = k.refusals.only (spoken_by e) a in cc)
+complete_end words (Some files) (Some input) d (Err (Refused text)) n end k = λ e a l calm. absurd (let same : Ok e ≡ Err text.items = k.refusals.only (Ok e) a in cc)
 complete_end words (Some files) (Some input) d (Err Outside) n end k = λ e a l calm. absurd (calm (k.rises refl))
 complete_end words (Some files) (Some input) d (Err Memory) n end k = λ e a l calm. elim end [ inl e ↦ inr e | inr e ↦ inr e ]
 complete_end words (Some files) (Some input) d (Err TooLong) n end k = λ e a l calm. absurd (not_long input d.after.source.left l (k.long refl))
@@ -232,16 +231,16 @@ pub told_words : (r : Result Bool Stop) (n : ℕ) (old mid new : SinkSeen) → I
 told_words r n old mid new end told is later same =
     tells_last n old mid new [] Words is refl (subst (λ v. IfErr v (λ s. TellsStop n mid new s)) (stopped_at r Words n end is refl refl) told) later (subst (λ m. AppendsPrefix old.held m []) (sym same) (prefix_none old.held []))
 
-told_text : (words : List (String Global)) (known : Option Files) (text : List ℕ) (T : List ℕ → Type 0) → IfSome known (λ files. IsRefusal words files text) → T text → IfSome known (λ files. (other : List ℕ) → Asks words files (refused other) → T other)
+told_text : (words : List (String Global)) (known : Option Files) (text : List ℕ) (T : List ℕ → Type 0) → IfSome known (λ files. IsRefusal words files text) → T text → IfSome known (λ files. (other : List ℕ) → Refuses words files other → T other)
 told_text words None text T one told = tt
 told_text words (Some files) text T one told = λ other a.
-    let both : refused other ≡ refused text = one.only (refused other) a in
+    let both : ◌≡◌ {A = OrText Plan} (Err other) (Err text) = one.only (Err other) a in
     let same : text ≡ other = cc in
     subst T same told
 
 pub told_refusal : (words : List (String Global)) (known : Option Files) (r : Result Bool Stop) (n : ℕ) (old mid new : SinkSeen) → IsEnd n r → IfErr r (λ s. TellsStop n mid new s) → n ≡ 3 → old.faults ≤ mid.faults → mid.held ≡ old.held
     → IfErr r (λ s. IfSome known (λ files. StopsAs (Asks words files) s))
-    → IfSome known (λ files. (text : List ℕ) → Asks words files (refused text) → TellsLast old new [] text)
+    → IfSome known (λ files. (text : List ℕ) → Refuses words files text → TellsLast old new [] text)
 told_refusal words known r n old mid new end told is later same refusals =
     let at = refused_at r n end is in
     told_text words known at.text.items (λ t. TellsLast old new [] t) (refusal_known words known r at.text at.is refusals)

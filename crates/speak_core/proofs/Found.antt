@@ -1,45 +1,200 @@
 -- From the files of the rules to what is asked for.
-use Rattle.std.proofs.Common.{◌≡◌, ◌≤◌, All, ℕ, List, [], ◌∷◌, None, Some, Ok, Err, Vec, Global, true, false, Result, Option, IfSome, IfOk, OnOk, length, get_or, slice_index_or, refl, sym, ap, ◌∙◌, subst, arith}
+use Rattle.std.proofs.Common.{◌≡◌, ℕ, List, [], ◌++◌, None, Some, Ok, Err, Vec, Global, Result, Option, inl, inr, IfSome, IfOk, IfErr, OnOk, slice_get, refl, sym, ap, ◌∙◌, subst, arith}
+use Rattle.std.proofs.lemmas.Bool.{cases_lt}
 use Rattle.std.specs.Prelude.{MatchResult}
 use Rattle.std.specs.declared.alloc.AllocError.{AllocError}
 use Rattle.norm_base.specs.Files.{Files, file_of}
+use Rattle.normaliser.specs.Loads.{IsFirstEmpty, NoneRewritesEmpty}
+use Rattle.core_expressions.specs.declared.expressions.Expr.{Expr}
 use Rattle.weighted_relations.specs.Expressions.{Expression, Rel}
-use Rattle.weighted_relations.specs.Machines.{Machine, Reads}
-use Rattle.weighted_relations.specs.Relations.{Cascade, IsUnmarked, Same}
-use Rattle.state_tuples.specs.Cascades.{Cascaded}
-use Rattle.speak_setup.specs.Setups.{SetupNames, SetupText, names_of, outcome_of}
-use Rattle.speak_setup.specs.declared.setup.Need.TheVariants.{Classifier}
-use Rattle.speak_setup.specs.declared.setup.Setup.{Setup}
+use Rattle.weighted_relations.specs.Relations.{Cascade, Relation, Same}
+use Rattle.speak_setup.specs.Setups.{SetupNames, SetupText, outcome_of}
 use Rattle.speak_setup.specs.declared.setup.SetupFault.{SetupFault}
 use Rattle.speak_setup.specs.declared.setup.SetupFault.TheVariants.{BadLine, Repeated, Missing, Memory as SetupMemory}
 use Rattle.thrax_meaning.specs.declared.why.Why.{Why}
 use Rattle.thrax_link.specs.Linking.{Linked, Outcome, refuses, exporting}
-use Rattle.speak_core.specs.Accepted.{Asked, spoken_by, refused, IsOnly, named, FirstEmpty, none_left, here, later, RulesAsk, unnamed, rewrites_empty, accepted, GrammarAsks, unlinked, linked, NamesAsk, SetupAsks, absent, at_fault, read}
-use Rattle.speak_core.specs.Loaded.{AreBuilt, CanBeBuilt, Loaded, StopsAs, TellsFirstEmpty, TellsText, Finds, IsSetupFile, IsGrammarFile, FindsSetup, FindsGrammar}
+use Rattle.speak_core.specs.Accepted.{ClassifierOf, CommandAsks, IsOnly, NamesAsk, OrText, PlanOf, RulesOf, VerbaliserOf, absent, all_rules, at_fault, has_both, linked, named, need_of, no_classifier, no_verbaliser, planned, read, rewrites_empty, unlinked, unplanned}
+use Rattle.speak_core.specs.Commands.{Command}
+use Rattle.speak_core.specs.Loaded.{Builds, Finds, FindsSpeaker, IsGrammarFile, IsSetupFile, SaySame, StopsAs, TellsFirstEmpty, TellsText, expressions_of}
+use Rattle.speak_core.specs.Plans.{Plan, rules_of, says_in}
 use Rattle.speak_core.specs.Stops.{IsDeviceStop}
-use Rattle.speak_core.proofs.Cascading.{cascade_same, named_count, read_count, unmarked_parts}
-use Rattle.speak_core.specs.Texts.{absent_text, setup_text, empty_text, refusal_text}
+use Rattle.speak_core.specs.Texts.{absent_text, empty_text, refusal_text, setup_text}
+use Rattle.speak_core.specs.declared.speakers.Speaker.{Speaker}
 use Rattle.speak_core.specs.declared.stop.Stop.{Stop}
 use Rattle.speak_core.specs.declared.stop.Stop.TheVariants as stop
+use Rattle.speak_core.specs.declared.words.Mode.{Mode}
+use Rattle.speak_core.specs.declared.words.Mode.TheVariants.{Classify, Speak}
+use Rattle.speak_core.proofs.Said.{says_alike}
 
--- what one part asks for and what another does
-pub record Alike (P Q : Asked → Type 0) : Type 0 where
-  pub to : (a : Asked) → P a → Q a
-  pub back : (a : Asked) → Q a → P a
+-- refusals
 
-only_lift : (P Q : Asked → Type 0) (a : Asked) → Alike P Q → IsOnly P a → IsOnly Q a
-only_lift P Q a alike o = record { found = alike.to a o.found; only = λ other q. o.only other (alike.back other q) }
+-- what refuses a part refuses the whole
+pub stops_through : {A B : Type 0} (P : OrText A → Type 0) (Q : OrText B → Type 0) (s : Stop) → ((text : List ℕ) → IsOnly P (Err text) → IsOnly Q (Err text)) → StopsAs P s → StopsAs Q s
+stops_through P Q stop.Words through h = tt
+stops_through P Q (stop.Refused text) through h = through text.items h
+stops_through P Q stop.Outside through h = tt
+stops_through P Q stop.Memory through h = tt
+stops_through P Q stop.TooLong through h = tt
 
-pub stops_lift : (P Q : Asked → Type 0) (s : Stop) → Alike P Q → StopsAs P s → StopsAs Q s
-stops_lift P Q stop.Words alike h = tt
-stops_lift P Q (stop.Refused text) alike h = only_lift P Q (refused text.items) alike h
-stops_lift P Q stop.Outside alike h = tt
-stops_lift P Q stop.Memory alike h = tt
-stops_lift P Q stop.TooLong alike h = tt
+-- a refusal that was told
+pub refusal_stops : {A : Type 0} (P : OrText A → Type 0) (text : List ℕ) (t : Result (Vec ℕ Global) AllocError) (s : Stop) → MatchResult t (λ found. s ≡ stop.Refused found) (λ none. s ≡ stop.Memory) → IfOk t (λ v. v.items ≡ text) → IsOnly P (Err text) → StopsAs P s
+refusal_stops P text (Ok v) s is items o = subst (StopsAs P) (sym is) (subst (λ l. IsOnly P (Err l)) (sym items) o)
+refusal_stops P text (Err e) s is items o = subst (StopsAs P) (sym is) tt
 
-pub finds_lift : (P Q : Asked → Type 0) (r : Result Cascaded Stop) → Alike P Q → Finds P r → Finds Q r
-finds_lift P Q (Ok c) alike h = record { expressions = h.expressions; is_only = only_lift P Q (spoken_by h.expressions) alike h.is_only; readings = h.readings }
-finds_lift P Q (Err s) alike h = stops_lift P Q s alike h
+-- a stop that a device alone makes tells no refusal
+pub device_stops : {A : Type 0} (P : OrText A → Type 0) (s : Stop) → IsDeviceStop s → StopsAs P s
+device_stops P stop.Words h = tt
+device_stops P (stop.Refused text) h = absurd h
+device_stops P stop.Outside h = tt
+device_stops P stop.Memory h = tt
+device_stops P stop.TooLong h = tt
+
+-- rules of a grammar file
+
+module _ (files : Files) (file : List ℕ) (rules : List (List ℕ)) where
+  pub named_only : (exports : List (List ℕ × Expression)) → IsGrammarFile files file exports → (found : OrText (List Expression)) → named file exports rules ≡ found → IsOnly (RulesOf files file rules) found
+  named_only exports g found is = record { found = linked exports found g.linked is; only = once } where
+    once : (other : OrText (List Expression)) → RulesOf files file rules other → other ≡ found
+    once other (unlinked at statement why l) = absurd (let both : refuses at statement why ≡ exporting exports = g.only (refuses at statement why) l in cc)
+    once other (linked more f l of) =
+        let both : exporting more ≡ exporting exports = g.only (exporting more) l in
+        let same : more ≡ exports = cc in
+        sym of ∙ (ap (λ x. named file x rules) same ∙ is)
+
+  pub named_stops : (exports : List (List ℕ × Expression)) → IsGrammarFile files file exports → (s : Stop) → TellsText (named file exports rules) s → StopsAs (RulesOf files file rules) s
+  named_stops exports g stop.Words h = tt
+  named_stops exports g (stop.Refused text) h = named_only exports g (Err text.items) h
+  named_stops exports g stop.Outside h = tt
+  named_stops exports g stop.Memory h = tt
+  named_stops exports g stop.TooLong h = tt
+
+  pub rules_found : (exports : List (List ℕ × Expression)) → IsGrammarFile files file exports → (r : Result (Vec Expr Global) Stop) → IfOk r (λ v. named file exports rules ≡ Ok (expressions_of v)) → IfErr r (TellsText (named file exports rules)) → Finds expressions_of (RulesOf files file rules) r
+  rules_found exports g (Ok v) is told = named_only exports g (Ok (expressions_of v)) is
+  rules_found exports g (Err s) is told = named_stops exports g s told
+
+  same_refusal : (at at' : List ℕ) (n n' : ℕ) (why why' : Why) → refuses at n why ≡ refuses at' n' why' → ◌≡◌ {A = OrText (List Expression)} (Err (refusal_text at n why)) (Err (refusal_text at' n' why'))
+  same_refusal at at' n n' why why' e =
+      let a : at ≡ at' = cc in
+      let b : n ≡ n' = cc in
+      let c : why ≡ why' = cc in
+      ap (λ x. Err (refusal_text x n why)) a ∙ ap (λ x. Err (refusal_text at' x why)) b ∙ ap (λ x. Err (refusal_text at' n' x)) c
+
+  pub unlinked_only : (at : List ℕ) (statement : ℕ) (why : Why) → Linked files file (refuses at statement why) → ((other : Outcome) → Linked files file other → other ≡ refuses at statement why) → IsOnly (RulesOf files file rules) (Err (refusal_text at statement why))
+  unlinked_only at statement why l only = record { found = unlinked at statement why l; only = once } where
+    once : (other : OrText (List Expression)) → RulesOf files file rules other → other ≡ Err (refusal_text at statement why)
+    once other (unlinked at' statement' why' m) = same_refusal at' at statement' statement why' why (only (refuses at' statement' why') m)
+    once other (linked exports found m is) = absurd (let both : exporting exports ≡ refuses at statement why = only (exporting exports) m in cc)
+
+-- the rules of a setup in a mode
+
+module _ (files : Files) (names : SetupNames) where
+  pub unused_only : IsOnly (VerbaliserOf files Classify names) (Ok [])
+  unused_only = record { found = refl; only = λ other q. q }
+
+  pub used_only : (file : List ℕ) (found : OrText (List Expression)) → names.verbalizer ≡ Some file → IsOnly (RulesOf files file names.verbalizer_rules) found → IsOnly (VerbaliserOf files Speak names) found
+  used_only file found is o = record { found = (file, is, o.found); only = once } where
+    once : (other : OrText (List Expression)) → VerbaliserOf files Speak names other → other ≡ found
+    once other q =
+        let both : Some q.0 ≡ Some file = sym q.1 ∙ is in
+        let same : q.0 ≡ file = cc in
+        o.only other (subst (λ f. RulesOf files f names.verbalizer_rules other) same q.2)
+
+  module _ (mode : Mode) where
+    pub no_classifier_only : (text : List ℕ) → IsOnly (ClassifierOf files names) (Err text) → IsOnly (PlanOf files mode names) (Err text)
+    no_classifier_only text o = record { found = no_classifier text o.found; only = once } where
+      once : (other : OrText Plan) → PlanOf files mode names other → other ≡ Err text
+      once other (no_classifier t c) = (let both : Err t ≡ Err text = o.only (Err t) c in let same : t ≡ text = cc in ap (λ x. Err x) same)
+      once other (no_verbaliser es t c v) = absurd (let both : Ok es ≡ Err text = o.only (Ok es) c in cc)
+      once other (has_both es vs c v) = absurd (let both : Ok es ≡ Err text = o.only (Ok es) c in cc)
+
+    module _ (es : List Expression) (o : IsOnly (ClassifierOf files names) (Ok es)) where
+      pub no_verbaliser_only : (text : List ℕ) → IsOnly (VerbaliserOf files mode names) (Err text) → IsOnly (PlanOf files mode names) (Err text)
+      no_verbaliser_only text p = record { found = no_verbaliser es text o.found p.found; only = once } where
+        once : (other : OrText Plan) → PlanOf files mode names other → other ≡ Err text
+        once other (no_classifier t c) = absurd (let both : Err t ≡ Ok es = o.only (Err t) c in cc)
+        once other (no_verbaliser fs t c v) = (let both : Err t ≡ Err text = p.only (Err t) v in let same : t ≡ text = cc in ap (λ x. Err x) same)
+        once other (has_both fs vs c v) = absurd (let both : Ok vs ≡ Err text = p.only (Ok vs) v in cc)
+
+      pub both_only : (vs : List Expression) → IsOnly (VerbaliserOf files mode names) (Ok vs) → IsOnly (PlanOf files mode names) (Ok (record { mode = mode; classifier = es; verbaliser = vs }))
+      both_only vs p = record { found = has_both es vs o.found p.found; only = once } where
+        once : (other : OrText Plan) → PlanOf files mode names other → other ≡ Ok (record { mode = mode; classifier = es; verbaliser = vs })
+        once other (no_classifier t c) = absurd (let both : Err t ≡ Ok es = o.only (Err t) c in cc)
+        once other (no_verbaliser fs t c v) = absurd (let both : Err t ≡ Ok vs = p.only (Err t) v in cc)
+        once other (has_both fs ws c v) =
+            let first : Ok fs ≡ Ok es = o.only (Ok fs) c in
+            let second : Ok ws ≡ Ok vs = p.only (Ok ws) v in
+            let same : fs ≡ es = cc in
+            let same_too : ws ≡ vs = cc in
+            ap (λ x. Ok (record { mode = mode; classifier = x; verbaliser = ws })) same ∙ ap (λ x. Ok (record { mode = mode; classifier = es; verbaliser = x })) same_too
+
+-- rewrites of the empty text
+
+first_empty_once : (es : List Expression) (a b : ℕ) → IsFirstEmpty es a → IsFirstEmpty es b → a ≡ b
+first_empty_once es a b f g =
+    elim (cases_lt a b) [
+      | inl low ↦ absurd (g.first a f.expression low f.there f.empty)
+      | inr high ↦ elim (cases_lt b a) [
+        | inl low ↦ absurd (f.first b g.expression low g.there g.empty)
+        | inr same ↦ omega (arith, high, same)
+      ]
+    ]
+
+module _ (files : Files) (mode : Mode) (names : SetupNames) where
+  pub unplanned_only : (text : List ℕ) → IsOnly (PlanOf files mode names) (Err text) → IsOnly (NamesAsk files mode names) (Err text)
+  unplanned_only text o = record { found = unplanned text o.found; only = once } where
+    once : (other : OrText Plan) → NamesAsk files mode names other → other ≡ Err text
+    once other (unplanned t p) = o.only (Err t) p
+    once other (rewrites_empty plan n rule p e is) = absurd (let both : Ok plan ≡ Err text = o.only (Ok plan) p in cc)
+    once other (planned plan p none) = absurd (let both : Ok plan ≡ Err text = o.only (Ok plan) p in cc)
+
+  module _ (plan : Plan) (o : IsOnly (PlanOf files mode names) (Ok plan)) where
+    same_plan : (other : Plan) → PlanOf files mode names (Ok other) → other ≡ plan
+    same_plan other p = let both : Ok other ≡ Ok plan = o.only (Ok other) p in cc
+
+    pub empty_only : (n : ℕ) (rule : List ℕ) → IsFirstEmpty (rules_of plan) n → slice_get (all_rules names) n ≡ Some rule → IsOnly (NamesAsk files mode names) (Err (empty_text rule))
+    empty_only n rule first is = record { found = rewrites_empty plan n rule o.found first is; only = once } where
+      once : (other : OrText Plan) → NamesAsk files mode names other → other ≡ Err (empty_text rule)
+      once other (unplanned t p) = absurd (let both : Err t ≡ Ok plan = o.only (Err t) p in cc)
+      once other (rewrites_empty more m r p e of) =
+          let number : m ≡ n = first_empty_once (rules_of plan) m n (subst (λ x. IsFirstEmpty (rules_of x) m) (same_plan more p) e) first in
+          let both : Some r ≡ Some rule = sym of ∙ (ap (slice_get (all_rules names)) number ∙ is) in
+          let same : r ≡ rule = cc in
+          ap (λ x. Err (empty_text x)) same
+      once other (planned more p none) = absurd (subst (λ x. NoneRewritesEmpty (rules_of x)) (same_plan more p) none n first.expression first.there first.empty)
+
+    pub planned_only : NoneRewritesEmpty (rules_of plan) → IsOnly (NamesAsk files mode names) (Ok plan)
+    planned_only none = record { found = planned plan o.found none; only = once } where
+      once : (other : OrText Plan) → NamesAsk files mode names other → other ≡ Ok plan
+      once other (unplanned t p) = absurd (let both : Err t ≡ Ok plan = o.only (Err t) p in cc)
+      once other (rewrites_empty more m r p e of) =
+          let first = subst (λ x. IsFirstEmpty (rules_of x) m) (same_plan more p) e in
+          absurd (none m first.expression first.there first.empty)
+      once other (planned more p clear) = ap (λ x. Ok x) (same_plan more p)
+
+    -- what building the rules of a plan comes to
+    pub builds_names : (r : Result Speaker Stop) → Builds names plan r → FindsSpeaker (NamesAsk files mode names) r
+    builds_names (Ok s) h = record { plan = plan; is_only = planned_only h.1; same = h.0 }
+    builds_names (Err stop.Words) h = tt
+    builds_names (Err (stop.Refused text)) h = subst (λ t. IsOnly (NamesAsk files mode names) (Err t)) (sym h.4) (empty_only h.0 h.1 h.2 h.3)
+    builds_names (Err stop.Outside) h = tt
+    builds_names (Err stop.Memory) h = tt
+    builds_names (Err stop.TooLong) h = tt
+
+-- a normaliser of the rules of a plan
+pub built : (mode : Mode) (C V : Relation) (es fs cs vs : List Expression) → es ≡ cs → fs ≡ vs → Same C (Cascade Rel es) → Same V (Cascade Rel fs) → NoneRewritesEmpty (es ++ fs)
+    → SaySame (says_in mode C V) (says_in mode (Cascade Rel cs) (Cascade Rel vs)) × NoneRewritesEmpty (cs ++ vs)
+built mode C V es fs cs vs p q f g none = (
+  says_alike mode C (Cascade Rel cs) V (Cascade Rel vs) (subst (λ l. Same C (Cascade Rel l)) p f) (subst (λ l. Same V (Cascade Rel l)) q g),
+  subst (λ l. NoneRewritesEmpty (l ++ vs)) p (subst (λ l. NoneRewritesEmpty (es ++ l)) q none),
+)
+
+-- the refusal of a rule of which a rewrite may read the empty text
+pub tells_empty : (names : List (List ℕ)) (es : List Expression) (n : ℕ) (rule : List ℕ) (t : Result (Vec ℕ Global) AllocError) (s : Stop) → MatchResult t (λ found. s ≡ stop.Refused found) (λ none. s ≡ stop.Memory) → IfOk t (λ v. v.items ≡ empty_text rule)
+    → IsFirstEmpty es n → slice_get names n ≡ Some rule → TellsFirstEmpty names es s
+tells_empty names es n rule (Ok v) s is items first there = subst (TellsFirstEmpty names es) (sym is) (n, rule, first, there, items)
+tells_empty names es n rule (Err e) s is items first there = subst (TellsFirstEmpty names es) (sym is) tt
+
+-- the setup
 
 same_text : (files : Files) (name a b : List ℕ) → file_of files name ≡ Some a → file_of files name ≡ Some b → a ≡ b
 same_text files name a b e f = let both : Some a ≡ Some b = sym e ∙ f in cc
@@ -47,187 +202,70 @@ same_text files name a b e f = let both : Some a ≡ Some b = sym e ∙ f in cc
 not_there : (files : Files) (name a : List ℕ) → file_of files name ≡ Some a → file_of files name ≡ None → ⊥
 not_there files name a e f = (let both : Some a ≡ None = sym e ∙ f in cc)
 
--- a refusal that was told
-pub refusal_stops : (P : Asked → Type 0) (text : List ℕ) (t : Result (Vec ℕ Global) AllocError) (s : Stop) → MatchResult t (λ found. s ≡ stop.Refused found) (λ none. s ≡ stop.Memory) → IfOk t (λ v. v.items ≡ text) → IsOnly P (refused text) → StopsAs P s
-refusal_stops P text (Ok v) s is items o = subst (StopsAs P) (sym is) (subst (λ l. IsOnly P (refused l)) (sym items) o)
-refusal_stops P text (Err e) s is items o = subst (StopsAs P) (sym is) tt
+module _ (files : Files) (command : Command) where
+  pub names_only : (names : SetupNames) → IsSetupFile files command.setup (need_of command.mode) names → (a : OrText Plan) → IsOnly (NamesAsk files command.mode names) a → IsOnly (CommandAsks files command) a
+  names_only names s a o = record { found = read s.text names a s.there s.reads o.found; only = once } where
+    once : (other : OrText Plan) → CommandAsks files command other → other ≡ a
+    once other (absent e) = absurd (not_there files command.setup s.text s.there e)
+    once other (at_fault text fault e r) =
+        let r' = subst (λ t. SetupText (need_of command.mode) t (Err fault)) (same_text files command.setup text s.text e s.there) r in
+        absurd (let both : Err fault ≡ Ok names = s.only (Err fault) r' in cc)
+    once other (read text more b e r n) =
+        let r' = subst (λ t. SetupText (need_of command.mode) t (Ok more)) (same_text files command.setup text s.text e s.there) r in
+        let both : Ok more ≡ Ok names = s.only (Ok more) r' in
+        let same : more ≡ names = cc in
+        o.only other (subst (λ x. NamesAsk files command.mode x other) same n)
 
--- the rules of a file
+  pub names_found : (names : SetupNames) → IsSetupFile files command.setup (need_of command.mode) names → (r : Result Speaker Stop) → FindsSpeaker (NamesAsk files command.mode names) r → FindsSpeaker (CommandAsks files command) r
+  names_found names s (Ok found) h = record { plan = h.plan; is_only = names_only names s (Ok h.plan) h.is_only; same = h.same }
+  names_found names s (Err r) h = stops_through (NamesAsk files command.mode names) (CommandAsks files command) r (λ text. names_only names s (Err text)) h
 
--- the first that rewrites the empty text is one
-first_empty_once : (names : List (List ℕ)) (es : List Expression) (a b : Option (List ℕ)) → FirstEmpty names es a → FirstEmpty names es b → a ≡ b
-first_empty_once names es a b none_left none_left = refl
-first_empty_once names es a b (here r) (here s) = refl
-first_empty_once names es a b (here r) (later s more) = absurd (s r)
-first_empty_once names es a b (later r more) (here s) = absurd (r s)
-first_empty_once names es a b (later {names = ns} {es = fs} r more) (later s rest) = first_empty_once ns fs a b more rest
+  pub absent_only : file_of files command.setup ≡ None → IsOnly (CommandAsks files command) (Err absent_text)
+  absent_only none = record { found = absent none; only = once } where
+    once : (a : OrText Plan) → CommandAsks files command a → a ≡ Err absent_text
+    once a (absent e) = refl
+    once a (at_fault text fault e r) = absurd (not_there files command.setup text e none)
+    once a (read text other b e r n) = absurd (not_there files command.setup text e none)
 
-rules_once : (file : List ℕ) (names : List (List ℕ)) (exports : List (List ℕ × Expression)) (a b : Asked) → RulesAsk file names exports a → RulesAsk file names exports b → a ≡ b
-rules_once file names exports a b (unnamed text is) (unnamed other of) = (let both : Err text ≡ Err other = sym is ∙ of in let same : text ≡ other = cc in ap refused same)
-rules_once file names exports a b (unnamed text is) (rewrites_empty es name of r) = absurd (let both : Err text ≡ Ok es = sym is ∙ of in cc)
-rules_once file names exports a b (unnamed text is) (accepted es of r) = absurd (let both : Err text ≡ Ok es = sym is ∙ of in cc)
-rules_once file names exports a b (rewrites_empty es name is r) (unnamed text of) = absurd (let both : Err text ≡ Ok es = sym of ∙ is in cc)
-rules_once file names exports a b (rewrites_empty es name is r) (rewrites_empty fs other of s) =
-    let both : Ok es ≡ Ok fs = sym is ∙ of in
-    let same : es ≡ fs = cc in
-    let found : Some name ≡ Some other = first_empty_once names fs (Some name) (Some other) (subst (λ l. FirstEmpty names l (Some name)) same r) s in
-    let one : name ≡ other = cc in
-    ap (λ n. refused (empty_text n)) one
-rules_once file names exports a b (rewrites_empty es name is r) (accepted fs of s) =
-    let both : Ok es ≡ Ok fs = sym is ∙ of in
-    let same : es ≡ fs = cc in
-    let found : Some name ≡ None = first_empty_once names fs (Some name) None (subst (λ l. FirstEmpty names l (Some name)) same r) s in
-    absurd (cc)
-rules_once file names exports a b (accepted es is r) (unnamed text of) = absurd (let both : Err text ≡ Ok es = sym of ∙ is in cc)
-rules_once file names exports a b (accepted es is r) (rewrites_empty fs name of s) =
-    let both : Ok es ≡ Ok fs = sym is ∙ of in
-    let same : es ≡ fs = cc in
-    let found : None ≡ Some name = first_empty_once names fs None (Some name) (subst (λ l. FirstEmpty names l None) same r) s in
-    absurd (cc)
-rules_once file names exports a b (accepted es is r) (accepted fs of s) = (let both : Ok es ≡ Ok fs = sym is ∙ of in let same : es ≡ fs = cc in ap spoken_by same)
+  fault_only : (text : List ℕ) (fault : SetupFault) → file_of files command.setup ≡ Some text → SetupText (need_of command.mode) text (Err fault) → ((other : Result SetupNames SetupFault) → SetupText (need_of command.mode) text other → other ≡ Err fault) → IsOnly (CommandAsks files command) (Err (setup_text fault))
+  fault_only text fault is reads only = record { found = at_fault text fault is reads; only = once } where
+    once : (a : OrText Plan) → CommandAsks files command a → a ≡ Err (setup_text fault)
+    once a (absent e) = absurd (not_there files command.setup text is e)
+    once a (at_fault t f e r) =
+        let both : Err f ≡ Err fault = only (Err f) (subst (λ x. SetupText (need_of command.mode) x (Err f)) (same_text files command.setup t text e is) r) in
+        let same : f ≡ fault = cc in
+        ap (λ x. Err (setup_text x)) same
+    once a (read t other b e r n) = absurd (let both : Ok other ≡ Err fault = only (Ok other) (subst (λ x. SetupText (need_of command.mode) x (Ok other)) (same_text files command.setup t text e is) r) in cc)
 
-pub rules_only : (file : List ℕ) (names : List (List ℕ)) (exports : List (List ℕ × Expression)) (a : Asked) → RulesAsk file names exports a → IsOnly (RulesAsk file names exports) a
-rules_only file names exports a r = record { found = r; only = λ other q. rules_once file names exports other a q r }
+  pub fault_stops : (text : List ℕ) (fault : SetupFault) (t : Result (Vec ℕ Global) AllocError) (s : Stop) → OnOk t (fault ≡ SetupMemory → ⊥) → MatchResult t (λ found. s ≡ stop.Refused found) (λ none. s ≡ stop.Memory) → IfOk t (λ v. v.items ≡ setup_text fault)
+      → IfSome (outcome_of (Err fault)) (λ o. SetupText (need_of command.mode) text o) → IfSome (outcome_of (Err fault)) (λ o. (other : Result SetupNames SetupFault) → SetupText (need_of command.mode) text other → other ≡ o)
+      → file_of files command.setup ≡ Some text → StopsAs (CommandAsks files command) s
+  fault_stops text (BadLine n) t s some is items reads only there = refusal_stops (CommandAsks files command) (setup_text (BadLine n)) t s is items (fault_only text (BadLine n) there reads only)
+  fault_stops text (Repeated n) t s some is items reads only there = refusal_stops (CommandAsks files command) (setup_text (Repeated n)) t s is items (fault_only text (Repeated n) there reads only)
+  fault_stops text (Missing key) t s some is items reads only there = refusal_stops (CommandAsks files command) (setup_text (Missing key)) t s is items (fault_only text (Missing key) there reads only)
+  fault_stops text SetupMemory (Ok v) s some is items reads only there = absurd (some refl)
+  fault_stops text SetupMemory (Err e) s some is items reads only there = subst (StopsAs (CommandAsks files command)) (sym is) tt
 
--- the refusal of a rule that isn't found
-pub unnamed_stops : (file : List ℕ) (names : List (List ℕ)) (exports : List (List ℕ × Expression)) (s : Stop) → TellsText (named file exports names) s → StopsAs (RulesAsk file names exports) s
-unnamed_stops file names exports stop.Words h = tt
-unnamed_stops file names exports (stop.Refused text) h = rules_only file names exports (refused text.items) (unnamed text.items h)
-unnamed_stops file names exports stop.Outside h = tt
-unnamed_stops file names exports stop.Memory h = tt
-unnamed_stops file names exports stop.TooLong h = tt
+-- what is known of files that are told
 
-module _ (file : List ℕ) (names : List (List ℕ)) (exports : List (List ℕ × Expression)) (es : List Expression) (are : named file exports names ≡ Ok es) where
-  -- the refusal of a rule that isn't built
-  pub unbuilt_stops : (s : Stop) → TellsFirstEmpty names es s → StopsAs (RulesAsk file names exports) s
-  unbuilt_stops stop.Words h = tt
-  unbuilt_stops (stop.Refused text) h = subst (λ t. IsOnly (RulesAsk file names exports) (refused t)) (sym h.1) (rules_only file names exports (refused (empty_text h.0)) (rewrites_empty es h.0 are h.2))
-  unbuilt_stops stop.Outside h = tt
-  unbuilt_stops stop.Memory h = tt
-  unbuilt_stops stop.TooLong h = tt
+pub both_known : (known : Option Files) {P Q R : Files → Type 0} → IfSome known P → IfSome known Q → ((files : Files) → P files → Q files → R files) → IfSome known R
+both_known None p q f = tt
+both_known (Some files) p q f = f files p q
 
-  pub built_loaded : (ms : List Machine) (c : Cascaded) → AreBuilt ms names es → c.parts ≡ ms → Loaded (RulesAsk file names exports) c
-  built_loaded ms c built is = record {
-    expressions = es;
-    is_only = rules_only file names exports (spoken_by es) (accepted es are built.complete);
-    readings = subst (λ l. Same (Cascade Reads l) (Cascade Rel es)) (sym is) (cascade_same ms es built.readings);
-  }
+-- a shelf that tells the same files
+pub known_before : (P : Files → Type 0) (before now : Option Files) → now ≡ before → IfSome now P → IfSome before P
+known_before P before now same h = subst (λ k. IfSome k P) same h
 
-  pub built_unmarked : (ms : List Machine) (c : Cascaded) → AreBuilt ms names es → All CanBeBuilt es → c.parts ≡ ms → IsUnmarked (Cascade Reads c.parts)
-  built_unmarked ms c built can is = subst (λ l. IsUnmarked (Cascade Reads l)) (sym is) (unmarked_parts ms es built.readings can)
-
-  pub built_count : (ms : List Machine) → AreBuilt ms names es → length ms ≡ length names
-  built_count ms built = read_count ms es built.readings ∙ sym (named_count file exports names es are)
-
--- the grammar file
-
-pub exports_alike : (files : Files) (file : List ℕ) (names : List (List ℕ)) (exports : List (List ℕ × Expression)) → IsGrammarFile files file exports → Alike (RulesAsk file names exports) (GrammarAsks files file names)
-exports_alike files file names exports g = record { to = λ a r. linked exports a g.linked r; back = back } where
-  back : (a : Asked) → GrammarAsks files file names a → RulesAsk file names exports a
-  back a (unlinked at statement why l) = absurd (let both : refuses at statement why ≡ exporting exports = g.only (refuses at statement why) l in cc)
-  back a (linked other b l r) =
-      let both : exporting other ≡ exporting exports = g.only (exporting other) l in
-      let same : other ≡ exports = cc in
-      subst (λ x. RulesAsk file names x b) same r
-
-same_refusal : (at at' : List ℕ) (n n' : ℕ) (why why' : Why) → refuses at n why ≡ refuses at' n' why' → refused (refusal_text at n why) ≡ refused (refusal_text at' n' why')
-same_refusal at at' n n' why why' e =
-    let a : at ≡ at' = cc in
-    let b : n ≡ n' = cc in
-    let c : why ≡ why' = cc in
-    ap (λ x. refused (refusal_text x n why)) a ∙ ap (λ x. refused (refusal_text at' x why)) b ∙ ap (λ x. refused (refusal_text at' n' x)) c
-
-pub unlinked_only : (files : Files) (file at : List ℕ) (names : List (List ℕ)) (statement : ℕ) (why : Why) → Linked files file (refuses at statement why) → ((other : Outcome) → Linked files file other → other ≡ refuses at statement why) → IsOnly (GrammarAsks files file names) (refused (refusal_text at statement why))
-unlinked_only files file at names statement why l only = record { found = unlinked at statement why l; only = once } where
-  once : (other : Asked) → GrammarAsks files file names other → other ≡ refused (refusal_text at statement why)
-  once other (unlinked at' statement' why' m) = same_refusal at' at statement' statement why' why (only (refuses at' statement' why') m)
-  once other (linked exports a m r) = absurd (let both : exporting exports ≡ refuses at statement why = only (exporting exports) m in cc)
-
--- the setup
-
-pub names_alike : (files : Files) (name : List ℕ) (names : SetupNames) → IsSetupFile files name names → Alike (NamesAsk files names) (SetupAsks files name)
-names_alike files name names s = record { to = λ a n. read s.text names a s.there s.reads n; back = back } where
-  back : (a : Asked) → SetupAsks files name a → NamesAsk files names a
-  back a (absent e) = absurd (not_there files name s.text s.there e)
-  back a (at_fault text fault e r) =
-      let r' = subst (λ t. SetupText Classifier t (Err fault)) (same_text files name text s.text e s.there) r in
-      absurd (let both : Err fault ≡ Ok names = s.only (Err fault) r' in cc)
-  back a (read text other b e r n) =
-      let r' = subst (λ t. SetupText Classifier t (Ok other)) (same_text files name text s.text e s.there) r in
-      let both : Ok other ≡ Ok names = s.only (Ok other) r' in
-      let same : other ≡ names = cc in
-      subst (λ x. NamesAsk files x b) same n
-
-pub absent_only : (files : Files) (name : List ℕ) → file_of files name ≡ None → IsOnly (SetupAsks files name) (refused absent_text)
-absent_only files name none = record { found = absent none; only = once } where
-  once : (a : Asked) → SetupAsks files name a → a ≡ refused absent_text
-  once a (absent e) = refl
-  once a (at_fault text fault e r) = absurd (not_there files name text e none)
-  once a (read text other b e r n) = absurd (not_there files name text e none)
-
-fault_only : (files : Files) (name text : List ℕ) (fault : SetupFault) → file_of files name ≡ Some text → SetupText Classifier text (Err fault) → ((other : Result SetupNames SetupFault) → SetupText Classifier text other → other ≡ Err fault) → IsOnly (SetupAsks files name) (refused (setup_text fault))
-fault_only files name text fault is reads only = record { found = at_fault text fault is reads; only = once } where
-  once : (a : Asked) → SetupAsks files name a → a ≡ refused (setup_text fault)
-  once a (absent e) = absurd (not_there files name text is e)
-  once a (at_fault t f e r) =
-      let both : Err f ≡ Err fault = only (Err f) (subst (λ x. SetupText Classifier x (Err f)) (same_text files name t text e is) r) in
-      let same : f ≡ fault = cc in
-      ap (λ x. refused (setup_text x)) same
-  once a (read t other b e r n) = absurd (let both : Ok other ≡ Err fault = only (Ok other) (subst (λ x. SetupText Classifier x (Ok other)) (same_text files name t text e is) r) in cc)
-
--- what the calls of the chain say, where the files are known
-
-pub absent_finds : (known : Option Files) (name : List ℕ) (t : Result (Vec ℕ Global) AllocError) (s : Stop) → MatchResult t (λ found. s ≡ stop.Refused found) (λ none. s ≡ stop.Memory) → IfOk t (λ v. v.items ≡ absent_text)
-    → IfSome known (λ files. None ≡ file_of files name) → IfSome known (λ files. StopsAs (SetupAsks files name) s)
-absent_finds None name t s is items none = tt
-absent_finds (Some files) name t s is items none = refusal_stops (SetupAsks files name) absent_text t s is items (absent_only files name (sym none))
-
-pub fault_finds : (known : Option Files) (name text : List ℕ) (fault : SetupFault) (t : Result (Vec ℕ Global) AllocError) (s : Stop) → OnOk t (fault ≡ SetupMemory → ⊥) → MatchResult t (λ found. s ≡ stop.Refused found) (λ none. s ≡ stop.Memory) → IfOk t (λ v. v.items ≡ setup_text fault)
-    → IfSome (outcome_of (Err fault)) (λ o. SetupText Classifier text o) → IfSome (outcome_of (Err fault)) (λ o. (other : Result SetupNames SetupFault) → SetupText Classifier text other → other ≡ o)
-    → IfSome known (λ files. Some text ≡ file_of files name) → IfSome known (λ files. StopsAs (SetupAsks files name) s)
-fault_finds None name text fault t s some is items reads only there = tt
-fault_finds (Some files) name text (BadLine n) t s some is items reads only there = refusal_stops (SetupAsks files name) (setup_text (BadLine n)) t s is items (fault_only files name text (BadLine n) (sym there) reads only)
-fault_finds (Some files) name text (Repeated n) t s some is items reads only there = refusal_stops (SetupAsks files name) (setup_text (Repeated n)) t s is items (fault_only files name text (Repeated n) (sym there) reads only)
-fault_finds (Some files) name text (Missing key) t s some is items reads only there = refusal_stops (SetupAsks files name) (setup_text (Missing key)) t s is items (fault_only files name text (Missing key) (sym there) reads only)
-fault_finds (Some files) name text SetupMemory (Ok v) s some is items reads only there = absurd (some refl)
-fault_finds (Some files) name text SetupMemory (Err e) s some is items reads only there = subst (StopsAs (SetupAsks files name)) (sym is) tt
-
-pub setup_finds : (known : Option Files) (name text : List ℕ) (names : SetupNames) → SetupText Classifier text (Ok names) → ((other : Result SetupNames SetupFault) → SetupText Classifier text other → other ≡ Ok names)
-    → IfSome known (λ files. Some text ≡ file_of files name) → IfSome known (λ files. IsSetupFile files name names)
-setup_finds None name text names reads only there = tt
-setup_finds (Some files) name text names reads only there = record { text = text; there = sym there; reads = reads; only = only }
-
-pub rule_finds : (known now : Option Files) (name : List ℕ) (names : SetupNames) (r : Result Cascaded Stop) → now ≡ known → IfSome known (λ files. IsSetupFile files name names) → IfSome now (λ files. Finds (NamesAsk files names) r) → IfSome known (λ files. Finds (SetupAsks files name) r)
-rule_finds None now name names r same s f = tt
-rule_finds (Some files) now name names r same s f = finds_lift (NamesAsk files names) (SetupAsks files name) r (names_alike files name names s) (subst (λ k. IfSome k (λ files. Finds (NamesAsk files names) r)) same f)
-
-pub named_finds : (known : Option Files) (file : List ℕ) (names : List (List ℕ)) (exports : List (List ℕ × Expression)) (r : Result Cascaded Stop) → IfSome known (λ files. IsGrammarFile files file exports) → Finds (RulesAsk file names exports) r → IfSome known (λ files. Finds (GrammarAsks files file names) r)
-named_finds None file names exports r g f = tt
-named_finds (Some files) file names exports r g f = finds_lift (RulesAsk file names exports) (GrammarAsks files file names) r (exports_alike files file names exports g) f
-
-pub named_stops : (known : Option Files) (file : List ℕ) (names : List (List ℕ)) (s : Stop) → IfSome known (λ files. (rules : List (List ℕ)) → StopsAs (GrammarAsks files file rules) s) → IfSome known (λ files. StopsAs (GrammarAsks files file names) s)
-named_stops None file names s h = tt
-named_stops (Some files) file names s h = h names
+where_told : (known : Option Files) {P : Files → Type 0} → ((files : Files) → known ≡ Some files → P files) → IfSome known P
+where_told None f = tt
+where_told (Some files) f = f files refl
 
 pub refusal_finds : (known : Option Files) (file at : List ℕ) (statement : ℕ) (why : Why) (t : Result (Vec ℕ Global) AllocError) (s : Stop) → MatchResult t (λ found. s ≡ stop.Refused found) (λ none. s ≡ stop.Memory) → IfOk t (λ v. v.items ≡ refusal_text at statement why)
     → ((files : Files) → known ≡ Some files → Linked files file (refuses at statement why)) → ((files : Files) → known ≡ Some files → (other : Outcome) → Linked files file other → other ≡ refuses at statement why)
-    → IfSome known (λ files. (rules : List (List ℕ)) → StopsAs (GrammarAsks files file rules) s)
-refusal_finds None file at statement why t s is items l only = tt
-refusal_finds (Some files) file at statement why t s is items l only = λ rules. refusal_stops (GrammarAsks files file rules) (refusal_text at statement why) t s is items (unlinked_only files file at rules statement why (l files refl) (only files refl))
+    → IfSome known (λ files. (rules : List (List ℕ)) → StopsAs (RulesOf files file rules) s)
+refusal_finds known file at statement why t s is items l only =
+    where_told known (λ files e rules. refusal_stops (RulesOf files file rules) (refusal_text at statement why) t s is items (unlinked_only files file rules at statement why (l files e) (only files e)))
 
 pub grammar_finds : (known : Option Files) (file : List ℕ) (exports : List (List ℕ × Expression)) → ((files : Files) → known ≡ Some files → Linked files file (exporting exports)) → ((files : Files) → known ≡ Some files → (other : Outcome) → Linked files file other → other ≡ exporting exports)
     → IfSome known (λ files. IsGrammarFile files file exports)
-grammar_finds None file exports l only = tt
-grammar_finds (Some files) file exports l only = record { linked = l files refl; only = only files refl }
-
--- a stop that a device alone makes tells no refusal
-pub device_stops : (P : Asked → Type 0) (s : Stop) → IsDeviceStop s → StopsAs P s
-device_stops P stop.Words h = tt
-device_stops P (stop.Refused text) h = absurd h
-device_stops P stop.Outside h = tt
-device_stops P stop.Memory h = tt
-device_stops P stop.TooLong h = tt
-
-pub device_finds : (known : Option Files) (name : List ℕ) (s : Stop) → IsDeviceStop s → IfSome known (λ files. StopsAs (SetupAsks files name) s)
-device_finds None name s h = tt
-device_finds (Some files) name s h = device_stops (SetupAsks files name) s h
+grammar_finds known file exports l only = where_told known (λ files e. record { linked = l files e; only = only files e })

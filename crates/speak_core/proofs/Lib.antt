@@ -1,7 +1,7 @@
-pub mod Spoken
-pub mod LineAnswers
+pub mod Said
+pub mod Tellings
 pub mod SoFar
-pub mod Cascading
+pub mod Named
 pub mod Found
 pub mod Runs
 pub mod Endings

@@ -63,10 +63,6 @@ SomeRose d = ShelfRose d ⊎ (Rose d.before.source.faults d.after.source.faults 
 abbrev pub NoneRose : Observed → Type 0
 NoneRose d = (d.after.shelf.faults ≡ d.before.shelf.faults) × (d.after.source.faults ≡ d.before.source.faults) × (d.after.out.faults ≡ d.before.out.faults) × (d.after.err.faults ≡ d.before.err.faults)
 
--- this holds of the files of the shelf, where they were known
-abbrev pub OfFiles : Observed → (Files → Type 0) → Type 0
-OfFiles d P = IfSome d.before.shelf.files P
-
--- this holds of the files of the shelf and of the input that the source had left, where both were known
-abbrev pub OfInput : Observed → (Files → List ℕ → Type 0) → Type 0
-OfInput d P = OfFiles d (λ files. IfSome d.before.source.left (λ input. P files input))
+-- this holds of the files of a shelf and of the input that a source had left, where both were told
+abbrev pub OfInput : Option Files → Option (List ℕ) → (Files → List ℕ → Type 0) → Type 0
+OfInput files left P = IfSome files (λ known. IfSome left (λ input. P known input))

@@ -1,4 +1,5 @@
 pub mod Commands
+pub mod Plans
 pub mod Texts
 pub mod Accepted
 pub mod Answers

@@ -1,85 +1,104 @@
 -- What was found on a shelf.
-use Rattle.std.specs.Prelude.{◌≡◌, ℕ, List, [], ◌∷◌, Ok, Err, None, Some, Result, false}
+use Rattle.std.specs.Prelude.{◌≡◌, ◌≤◌, ◌+◌, ℕ, All, List, length, Ok, Err, Some, Result, map, slice_get, Vec}
+use Rattle.std.specs.declared.alloc.Global.{Global}
+use Rattle.core_expressions.specs.Views.{expression_of}
+use Rattle.core_expressions.specs.declared.expressions.Expr.{Expr}
 use Rattle.norm_base.specs.Files.{Files, file_of}
-use Rattle.weighted_relations.specs.Expressions.{Expression, IsSound, Rel, is_marked}
-use Rattle.weighted_relations.specs.Machines.{Machine, Reads}
-use Rattle.weighted_relations.specs.Relations.{Cascade, Same}
-use Rattle.speak_setup.specs.Setups.{SetupNames, SetupText, names_of}
-use Rattle.speak_setup.specs.declared.setup.Need.TheVariants.{Classifier}
+use Rattle.normaliser.specs.Lines.{Answer, Saying}
+use Rattle.normaliser.specs.Loads.{CanBeBuilt, IsFirstEmpty, NoneRewritesEmpty}
+use Rattle.speak_setup.specs.Setups.{SetupNames, SetupText, most_rules, names_of}
+use Rattle.speak_setup.specs.declared.setup.Need.{Need}
 use Rattle.speak_setup.specs.declared.setup.Setup.{Setup}
 use Rattle.speak_setup.specs.declared.setup.SetupFault.{SetupFault}
 use Rattle.thrax_link.specs.Exports.{exports_of}
 use Rattle.thrax_link.specs.Linking.{Linked, Outcome, exporting}
 use Rattle.thrax_link.specs.declared.grammar.Export.{Export}
-use Rattle.speak_core.specs.Accepted.{Asked, FirstEmpty, IsOnly, GrammarAsks, SetupAsks, spoken_by, refused}
-use Rattle.state_tuples.specs.Cascades.{Cascaded}
-use Rattle.grammar_build.specs.Empties.{RewritesEmptyText}
+use Rattle.weighted_relations.specs.Expressions.{Expression}
+use Rattle.speak_core.specs.Accepted.{CommandAsks, IsOnly, OrText, RulesOf, all_rules, need_of}
+use Rattle.speak_core.specs.Commands.{Command}
+use Rattle.speak_core.specs.Parts.{says_of}
+use Rattle.speak_core.specs.Plans.{Plan, rules_of, saying_of}
 use Rattle.speak_core.specs.Texts.{empty_text}
+use Rattle.speak_core.specs.declared.loading.Rules.{Rules}
+use Rattle.speak_core.specs.declared.speakers.Speaker.{Speaker}
 use Rattle.speak_core.specs.declared.stop.Stop.{Stop}
 use Rattle.speak_core.specs.declared.stop.Stop.TheVariants as stop
-
--- the cascade of some expressions is asked for, and these parts have its readings
-pub record Loaded (P : Asked → Type 0) (c : Cascaded) : Type 0 where
-  pub expressions : List Expression
-  pub is_only : IsOnly P (spoken_by expressions)
-  pub readings : Same (Cascade Reads c.parts) (Cascade Rel expressions)
+use Rattle.speak_core.specs.declared.words.Mode.{Mode}
 
 -- A stop that tells a refusal is the one that is asked for; other stops say nothing of it.
-abbrev pub StopsAs : (Asked → Type 0) → Stop → Type 0
-StopsAs P (stop.Refused text) = IsOnly P (refused text.items)
+abbrev pub StopsAs : {A : Type 0} → (OrText A → Type 0) → Stop → Type 0
+StopsAs P (stop.Refused text) = IsOnly P (Err text.items)
 StopsAs P _ = Unit {0}
 
--- the cascade that is asked for, or the refusal
-abbrev pub Finds : (Asked → Type 0) → Result Cascaded Stop → Type 0
-Finds P (Ok c) = Loaded P c
-Finds P (Err s) = StopsAs P s
+-- what is asked for, by what it stands for, or the refusal
+abbrev pub Finds : {A B : Type 0} → (B → A) → (OrText A → Type 0) → Result B Stop → Type 0
+Finds view P (Ok found) = IsOnly P (Ok (view found))
+Finds view P (Err s) = StopsAs P s
 
 -- The text of a refusal is told where there is one. Want of memory says nothing of it.
-abbrev pub TellsText : {A : Type 0} → Result A (List ℕ) → Stop → Type 0
+abbrev pub TellsText : {A : Type 0} → OrText A → Stop → Type 0
 TellsText found (stop.Refused text) = found ≡ Err text.items
 TellsText found stop.Memory = Unit {0}
 TellsText found _ = ⊥
 
--- an expression that a transducer can be built for
-pub record CanBeBuilt (e : Expression) : Type 0 where
-  pub sound : IsSound e
-  pub unmarked : is_marked e ≡ false
+-- expressions that are kept
+abbrev pub expressions_of : Vec Expr Global → List Expression
+expressions_of rules = map expression_of rules.items
 
--- the refusal of a rule of which a rewrite may read the empty text
-abbrev pub TellsEmpty : List ℕ → Expression → Stop → Type 0
-TellsEmpty name e (stop.Refused text) = (text.items ≡ empty_text name) × RewritesEmptyText e
-TellsEmpty name e stop.Memory = Unit {0}
-TellsEmpty name e _ = ⊥
+-- the plan of some rules in a mode
+abbrev pub plan_of : Mode → Rules → Plan
+plan_of mode rules = record { mode = mode; classifier = expressions_of rules.classifier; verbaliser = expressions_of rules.verbaliser }
 
--- the refusal of the first such rule
+-- Rules that a normaliser can be made of, which are as many as their names.
+pub record CanLoad (names : SetupNames) (rules : Rules) : Type 0 where
+  pub some : 1 ≤ length rules.classifier.items
+  pub few : length rules.classifier.items ≤ most_rules
+  pub few_words : length rules.verbaliser.items ≤ most_rules
+  pub classifier : All CanBeBuilt (expressions_of rules.classifier)
+  pub verbaliser : All CanBeBuilt (expressions_of rules.verbaliser)
+  pub named : length rules.classifier.items + length rules.verbaliser.items ≤ length (all_rules names)
+
+-- lines say the same by both
+abbrev pub SaySame : Saying → Saying → Type 0
+SaySame P Q = (line : List ℕ) (answer : Answer) → (P line answer → Q line answer) × (Q line answer → P line answer)
+
+-- a line says no two things
+abbrev pub SaysOnce : Saying → Type 0
+SaysOnce P = (line : List ℕ) (a b : Answer) → P line a → P line b → a ≡ b
+
+-- a plan is asked for, and by this speaker the lines say the same
+pub record Loaded (P : OrText Plan → Type 0) (s : Speaker) : Type 0 where
+  pub plan : Plan
+  pub is_only : IsOnly P (Ok plan)
+  pub same : SaySame (says_of s) (saying_of plan)
+
+-- the speaker of the plan that is asked for, or the refusal
+abbrev pub FindsSpeaker : (OrText Plan → Type 0) → Result Speaker Stop → Type 0
+FindsSpeaker P (Ok s) = Loaded P s
+FindsSpeaker P (Err s) = StopsAs P s
+
+-- the refusal of the first rule, by its name, of which a rewrite may read the empty text
 abbrev pub TellsFirstEmpty : List (List ℕ) → List Expression → Stop → Type 0
-TellsFirstEmpty names es (stop.Refused text) = (name : List ℕ) × (text.items ≡ empty_text name) × FirstEmpty names es (Some name)
+TellsFirstEmpty names es (stop.Refused text) = (number : ℕ) × (rule : List ℕ) × IsFirstEmpty es number × (slice_get names number ≡ Some rule) × (text.items ≡ empty_text rule)
 TellsFirstEmpty names es stop.Memory = Unit {0}
 TellsFirstEmpty names es _ = ⊥
 
--- each transducer has the readings of its expression
-abbrev pub AllReadAs : List Machine → List Expression → Type 0
-AllReadAs [] [] = Unit {0}
-AllReadAs [] (e ∷ es) = ⊥
-AllReadAs (m ∷ ms) [] = ⊥
-AllReadAs (m ∷ ms) (e ∷ es) = Same (Reads m) (Rel e) × AllReadAs ms es
-
--- the transducers of these rules, of which no rewrite may read the empty text
-pub record AreBuilt (ms : List Machine) (names : List (List ℕ)) (es : List Expression) : Type 0 where
-  pub readings : AllReadAs ms es
-  pub complete : FirstEmpty names es None
+-- a speaker of a plan whose rules can be built, or the refusal of the first that can't
+abbrev pub Builds : SetupNames → Plan → Result Speaker Stop → Type 0
+Builds names plan (Ok s) = SaySame (says_of s) (saying_of plan) × NoneRewritesEmpty (rules_of plan)
+Builds names plan (Err s) = TellsFirstEmpty (all_rules names) (rules_of plan) s
 
 -- the file of this name is a setup of these names, and of no others
-pub record IsSetupFile (files : Files) (name : List ℕ) (names : SetupNames) : Type 0 where
+pub record IsSetupFile (files : Files) (name : List ℕ) (need : Need) (names : SetupNames) : Type 0 where
   pub text : List ℕ
   pub there : file_of files name ≡ Some text
-  pub reads : SetupText Classifier text (Ok names)
-  pub only : (other : Result SetupNames SetupFault) → SetupText Classifier text other → other ≡ Ok names
+  pub reads : SetupText need text (Ok names)
+  pub only : (other : Result SetupNames SetupFault) → SetupText need text other → other ≡ Ok names
 
--- the setup of this name, or the refusal
-abbrev pub FindsSetup : Files → List ℕ → Result Setup Stop → Type 0
-FindsSetup files name (Ok setup) = IsSetupFile files name (names_of setup)
-FindsSetup files name (Err s) = StopsAs (SetupAsks files name) s
+-- the setup of a command, or the refusal
+abbrev pub FindsSetup : Files → Command → Result Setup Stop → Type 0
+FindsSetup files command (Ok setup) = IsSetupFile files command.setup (need_of command.mode) (names_of setup)
+FindsSetup files command (Err s) = StopsAs (CommandAsks files command) s
 
 -- the file of this name exports this, and nothing else
 pub record IsGrammarFile (files : Files) (name : List ℕ) (exports : List (List ℕ × Expression)) : Type 0 where
@@ -89,4 +108,4 @@ pub record IsGrammarFile (files : Files) (name : List ℕ) (exports : List (List
 -- the grammar of this name, or the refusal of whichever rules are asked for
 abbrev pub FindsGrammar : Files → List ℕ → Result (List Export) Stop → Type 0
 FindsGrammar files name (Ok grammar) = IsGrammarFile files name (exports_of grammar)
-FindsGrammar files name (Err s) = (rules : List (List ℕ)) → StopsAs (GrammarAsks files name rules) s
+FindsGrammar files name (Err s) = (rules : List (List ℕ)) → StopsAs (RulesOf files name rules) s

@@ -69,18 +69,18 @@ AllCounts d (Err Memory) = Unit {0}
 AllCounts d (Ok x) = NoneRose d
 AllCounts d (Err stop) = NoneRose d
 
--- what ends the reading of a setup and its rule
+-- what ends the reading of a setup and its rules
 abbrev pub IsReadStop : Stop → Type 0
 IsReadStop (Refused text) = Unit {0}
 IsReadStop Outside = Unit {0}
 IsReadStop Memory = Unit {0}
 IsReadStop _ = ⊥
 
--- what ends the building of a rule
-abbrev pub IsBuildStop : Stop → Type 0
-IsBuildStop (Refused text) = Unit {0}
-IsBuildStop Memory = Unit {0}
-IsBuildStop _ = ⊥
+-- what ends the looking up of rules, or their building
+abbrev pub IsRuleStop : Stop → Type 0
+IsRuleStop (Refused text) = Unit {0}
+IsRuleStop Memory = Unit {0}
+IsRuleStop _ = ⊥
 
 -- the status of a stop, or that of want of memory
 abbrev pub IsStatus : ℕ → Stop → Type 0

@@ -5,8 +5,8 @@ use Rattle.std.specs.declared.alloc.Global.{Global}
 use Rattle.norm_base.specs.Bytes.{AppendsPrefix}
 use Rattle.norm_base.specs.Counts.{Rose}
 use Rattle.norm_base.specs.Files.{Files}
-use Rattle.speak_core.specs.Accepted.{Asks, refused}
-use Rattle.speak_core.specs.Commands.{setup_name}
+use Rattle.speak_core.specs.Accepted.{Refused}
+use Rattle.speak_core.specs.Commands.{command_in}
 use Rattle.speak_core.specs.Devices.{Observed, OfInput, SinkSeen, SomeRose}
 use Rattle.speak_core.specs.Inputs.{GaveMore}
 use Rattle.speak_core.specs.Owed.{Owed}
@@ -39,8 +39,8 @@ pub record TellsStop (status : ℕ) (before after : SinkSeen) (stop : Stop) : Ty
 -- A text that a run may tell last, with its cause: that the words are wrong, that what they name is refused, that a count rose, or that the input is too long. Where all is well it tells nothing.
 pub data MayTell (words : List (String Global)) (d : Observed) (files : Files) (input : List ℕ) : List ℕ → Type 0 where
   no_text : MayTell words d files input []
-  wrong_words : setup_name words ≡ None → MayTell words d files input (text_of Words)
-  refusal : (text : List ℕ) → Asks words files (refused text) → MayTell words d files input text
+  wrong_words : command_in words ≡ None → MayTell words d files input (text_of Words)
+  refusal : (text : List ℕ) → Refused words files text → MayTell words d files input text
   outside : SomeRose d → MayTell words d files input (text_of Outside)
   too_long : IsSomeAnd d.after.source.left (λ now. GaveMore input now) → MayTell words d files input (text_of TooLong)
 
@@ -59,6 +59,6 @@ pub record TellsShortOf (words : List (String Global)) (d : Observed) (files : F
   pub lines : AppendsPrefix d.before.err.held between faults
   pub last : TellsTwice between d.after.err.held text
 
--- so it is whatever is owed of the files and the input, where both were known
+-- so it is whatever is owed of the files and the input, where both were told
 abbrev pub TellsShort : List (String Global) → Observed → Type 0
-TellsShort words d = OfInput d (λ files input. (output faults : List ℕ) → Owed words files input output faults → TellsShortOf words d files input faults)
+TellsShort words d = OfInput d.before.shelf.files d.before.source.left (λ files input. (output faults : List ℕ) → Owed words files input output faults → TellsShortOf words d files input faults)

@@ -1,133 +1,156 @@
-// Some lines of a text, spoken.
+// A batch of lines: cut off a text, answered, and told.
 
-ghost use Rattle.std.specs.Prelude.{◌≡◌, ◌<◌, ◌+◌, ◌^◌, IfOk, IsTrue, OnErr, length, string_bytes};
-ghost use Rattle.weighted_relations.specs.Relations.{IsUnmarked};
-ghost use Rattle.speak_core.specs.Answers.{fault_text, is_read, words_text};
-ghost use Rattle.speak_core.specs.Parts.{ReadsOf, SpokenLine, SpokenPart, answer_of};
+ghost use Rattle.std.specs.Prelude.{◌≡◌, ◌<◌, ◌≤◌, ◌+◌, ◌^◌, ◌++◌, IfOk, OnErr, OnOk, length, map, string_bytes};
+ghost use Rattle.speak_core.specs.Answers.{fault_text, words_text};
+ghost use Rattle.speak_core.specs.Parts.{AnswersFront, Cuts, TellsFront, answer_of, lines_of, says_of};
 
-use crate::answering::answer;
-use crate::faults::{LineFault, told};
-use state_tuples::Cascade;
+use crate::speakers::Speaker;
+use normaliser::{LineFault, Spoken};
 use std::alloc::{AllocError, Global};
 use text_lines::first_line;
 
-/// A batch ends once it has so many bytes for one of the sinks.
-const FULL: usize = 65_536;
+/// How many lines a batch may have.
+const MOST_LINES: usize = 1024;
 
-/// Lines that were spoken and aren't written yet.
+/// Lines of a text that are handled together.
 #[derive(Drop)]
 pub(crate) struct Batch<'a> {
-    pub(crate) words: Vec<u8>,
-    pub(crate) faults: Vec<u8>,
-    /// The number of its last line.
-    pub(crate) number: u64,
-    /// No line of it was refused.
-    pub(crate) is_read: bool,
-    /// What follows its lines.
+    pub(crate) lines: Vec<&'a [u8]>,
+    /// What follows them.
     pub(crate) rest: &'a [u8],
-    /// It didn't end for want of memory.
+}
+
+/// Cuts a batch off the front of a text.
+pub(crate) fn cut_batch<'a>(alloc: Global, text: &'a [u8]) -> Result<Batch<'a>, AllocError>
+    ensures { IfOk result (λ batch. Cuts 1024 text.now (lines_of batch.lines.items) batch.rest.now) }
+{
+    let mut lines = Vec::new(alloc);
+    let mut rest = text;
+    while !rest.is_empty() && lines.len() < MOST_LINES {
+        let (line, after) = first_line(rest);
+        lines.push(line)?;
+        rest = after;
+    }
+    Ok(Batch { lines, rest })
+}
+
+/// What lines say, each with its words or its first fault.
+#[derive(Drop)]
+pub(crate) struct Answers {
+    pub(crate) all: Vec<Result<Spoken, LineFault>>,
+    /// They didn't end for want of memory.
     pub(crate) is_whole: bool,
 }
 
-/// Speaks lines until a batch is full, the text is at its end or memory is wanting. The lines are numbered on from the number
-/// of the last one before them.
-pub(crate) fn speak_batch<'a>(
-    alloc: Global,
-    cascade: &Cascade,
-    text: &'a [u8],
-    before: u64,
-) -> Batch<'a>
-    requires unmarked { IsUnmarked (ReadsOf cascade.now) }
-    requires some { 0 < length text.now }
-    requires fits { before + length text.now < 2 ^ 64 }
-    ensures part { SpokenPart (ReadsOf cascade.now) text.now result.rest.now before result.number result.is_read result.words.items result.faults.items }
-    ensures less { IsTrue result.is_whole → length result.rest.now < length text.now }
+/// Answers lines in order, up to the first for which memory is wanting.
+pub(crate) fn answer_lines(alloc: Global, speaker: &Speaker, lines: &[&[u8]]) -> Answers
+    ensures { AnswersFront (says_of speaker.now) (lines_of lines.now) (map answer_of result.all.items) result.is_whole }
 {
-    let mut words = Vec::new(alloc);
-    let mut faults = Vec::new(alloc);
-    let mut number = before;
-    let mut is_read = true;
-    let mut rest = text;
-    loop {
-        let (line, after) = first_line(rest);
-        let Ok(now_read) = speak_line(alloc, cascade, line, number + 1, &mut words, &mut faults)
-        else {
-            return Batch {
-                words,
-                faults,
-                number,
-                is_read,
-                rest,
-                is_whole: false,
-            };
+    let mut answers = Answers {
+        all: Vec::new(alloc),
+        is_whole: false,
+    };
+    for line in lines {
+        let Ok(answer) = speaker.answer(alloc, line) else {
+            return answers;
         };
-        number += 1;
-        is_read = is_read && now_read;
-        rest = after;
-        if rest.is_empty() || FULL <= words.len() || FULL <= faults.len() {
-            return Batch {
-                words,
-                faults,
-                number,
-                is_read,
-                rest,
-                is_whole: true,
-            };
-        }
+        let Ok(()) = answers.all.push(answer) else {
+            return answers;
+        };
     }
+    answers.is_whole = true;
+    answers
 }
 
-/// Adds what one line says to the words and the faults, or nothing for want of memory. Answers whether the line was read.
-fn speak_line(
+/// What is written for lines.
+#[derive(Drop)]
+pub(crate) struct Told {
+    /// The words of each line and a LF.
+    pub(crate) words: Vec<u8>,
+    pub(crate) faults: Vec<u8>,
+    /// They didn't end for want of memory.
+    pub(crate) is_whole: bool,
+}
+
+/// Tells answers in order, up to the first for which memory is wanting. They are numbered on from the number of the first.
+pub(crate) fn tell_answers(alloc: Global, answers: &[Result<Spoken, LineFault>], first: u64) -> Told
+    requires { first + length answers.now < 2 ^ 64 }
+    ensures { TellsFront first (map answer_of answers.now) result.words.items result.faults.items result.is_whole }
+{
+    let mut told = Told {
+        words: Vec::new(alloc),
+        faults: Vec::new(alloc),
+        is_whole: false,
+    };
+    let mut number = first;
+    for answer in answers {
+        let Ok(()) = tell(alloc, number, answer, &mut told.words, &mut told.faults) else {
+            return told;
+        };
+        number += 1;
+    }
+    told.is_whole = true;
+    told
+}
+
+/// Adds what is written for one line, or nothing for want of memory.
+fn tell(
     alloc: Global,
-    cascade: &Cascade,
-    line: &[u8],
     number: u64,
+    answer: &Result<Spoken, LineFault>,
     words: &mut Vec<u8>,
     faults: &mut Vec<u8>,
-) -> Result<bool, AllocError>
-    requires { IsUnmarked (ReadsOf cascade.now) }
-    ensures spoken { IfOk result (λ is_read. SpokenLine (ReadsOf cascade.now) line.now number words.old.items words.new.items faults.old.items faults.new.items is_read) }
+) -> Result<(), AllocError>
+    ensures words { OnOk result (words.new.items ≡ words.old.items ++ words_text (answer_of answer.now)) }
+    ensures faults { OnOk result (faults.new.items ≡ faults.old.items ++ fault_text number (answer_of answer.now)) }
     ensures words_kept { OnErr result (words.new.items ≡ words.old.items) }
     ensures faults_kept { OnErr result (faults.new.items ≡ faults.old.items) }
 {
-    let answer = answer(alloc, cascade, line)?;
-    let said = texts_of(alloc, number, answer)?;
+    let kept = faults.len();
+    if let Err(fault) = answer {
+        let text = fault_line(alloc, number, *fault)?;
+        faults.extend_from_slice(text.as_bytes())?;
+    }
+    if write(answer, words).is_err() {
+        faults.truncate(kept);
+        return Err(AllocError);
+    }
+    Ok(())
+}
+
+/// Adds the words of a line and a LF, or nothing for want of memory.
+fn write(answer: &Result<Spoken, LineFault>, words: &mut Vec<u8>) -> Result<(), AllocError>
+    ensures words { OnOk result (words.new.items ≡ words.old.items ++ words_text (answer_of answer.now)) }
+    ensures kept { OnErr result (words.new.items ≡ words.old.items) }
+{
     let kept = words.len();
-    words.extend_from_slice(&said.words)?;
-    if faults.extend_from_slice(said.fault.as_bytes()).is_err() {
+    if let Ok(spoken) = answer {
+        words.extend_from_slice(&spoken.words)?;
+    }
+    if words.push(b'\n').is_err() {
         words.truncate(kept);
         return Err(AllocError);
     }
-    Ok(said.is_read)
+    Ok(())
 }
 
-/// What is written for a line.
-#[derive(Drop)]
-struct Said {
-    words: Vec<u8>,
-    fault: String,
-    is_read: bool,
-}
-
-/// The words of a line and a LF, and its fault.
-fn texts_of(
-    alloc: Global,
-    number: u64,
-    answer: Result<Vec<u8>, LineFault>,
-) -> Result<Said, AllocError>
-    ensures words { IfOk result (λ said. said.words.items ≡ words_text (answer_of answer)) }
-    ensures fault { IfOk result (λ said. string_bytes said.fault ≡ fault_text number (answer_of answer)) }
-    ensures read { IfOk result (λ said. said.is_read ≡ is_read (answer_of answer)) }
+/// What is told of the fault of the line of this number, from 1.
+fn fault_line(alloc: Global, number: u64, fault: LineFault) -> Result<String, AllocError>
+    ensures { IfOk result (λ text. string_bytes text ≡ fault_text number (Err fault)) }
 {
-    let (mut words, fault, is_read) = match answer {
-        Ok(words) => (words, String::new(alloc), true),
-        Err(fault) => (Vec::new(alloc), told(alloc, number, fault)?, false),
-    };
-    words.push(b'\n')?;
-    Ok(Said {
-        words,
-        fault,
-        is_read,
-    })
+    match fault {
+        LineFault::NulByte { at } => format!(in alloc; "line {number}: byte 0 at {at}\n"),
+        LineFault::LongLine => format!(in alloc; "line {number}: longer than 16384 bytes\n"),
+        LineFault::NoPath => format!(in alloc; "line {number}: no path\n"),
+        LineFault::NotTokens { token } => {
+            format!(in alloc; "line {number}: not token text after {token} tokens\n")
+        }
+        LineFault::TooManyFields { token } => {
+            format!(in alloc; "line {number}: token {token} has more than 10 fields\n")
+        }
+        LineFault::NoWords { token } => {
+            format!(in alloc; "line {number}: token {token} has no words\n")
+        }
+        LineFault::Memory => Err(AllocError),
+    }
 }

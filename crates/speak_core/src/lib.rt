@@ -1,22 +1,21 @@
-//! The top call: from the words of the command, a setup and its grammar to what each line of the input says.
+//! The top call: from the words of the command, a setup and its grammars to what each line of the input says.
 //!
 //! [`speak`] is the whole program but for its devices. Its contract says, for every input: what words and files ask for
 //! (`specs/Commands.antt`, `specs/Accepted.antt`), with the text of each refusal (`specs/Texts.antt`), what each line says by the
-//! relation of the cascade alone (`specs/Answers.antt`), what `out` and `err` are owed of it (`specs/Owed.antt`,
+//! relations of the rules alone (`specs/Plans.antt`, `specs/Answers.antt`), what `out` and `err` are owed of it (`specs/Owed.antt`,
 //! `specs/Told.antt`), and the cause of each status (`specs/Stops.antt`, `specs/Inputs.antt`). No transducer and no search
-//! occurs in it. What a setup is says `speak_setup`, what a grammar exports `thrax_link`, and what the lines are `text_lines`.
+//! occurs in it. What a setup is says `speak_setup`, what a grammar exports `thrax_link`, what the lines are `text_lines`, and what
+//! one line says `normaliser`.
 //!
 //! `specs/Parts.antt` and `specs/Loaded.antt` speak of the private calls alone.
 #![tactic(auto)]
 
-mod answering;
 mod batches;
-mod faults;
 mod loading;
 mod outside;
-mod preparing;
 mod rules;
 mod running;
+mod speakers;
 mod speaking;
 mod stop;
 mod texts;

@@ -1,73 +1,161 @@
-// From the files of a shelf to the cascade that they name.
+// From the files of a shelf to the plan that they ask for.
 
-ghost use Rattle.std.specs.Prelude.{◌≡◌, ◌≤◌, All, IfErr, IfOk, IfSome};
-ghost use Rattle.weighted_relations.specs.Relations.{IsUnmarked};
-ghost use Rattle.speak_setup.specs.Setups.{HasNames, names_of};
+ghost use Rattle.std.specs.Prelude.{◌≡◌, ◌<◌, ◌≤◌, ◌++◌, All, IfErr, IfOk, IfSome, Some, length, slice_get};
+ghost use Rattle.normaliser.specs.Loads.{CanBeBuilt};
+ghost use Rattle.speak_setup.specs.Setups.{HasNames, HasVerbalizer, IsNamed, most_rules, names_of};
 ghost use Rattle.thrax_link.specs.Exports.{exports_of};
-ghost use Rattle.speak_core.specs.Accepted.{NamesAsk, SetupAsks};
-ghost use Rattle.speak_core.specs.Loaded.{Finds, FindsGrammar, FindsSetup};
-ghost use Rattle.speak_core.specs.Parts.{ReadsOf};
-ghost use Rattle.speak_core.specs.Stops.{Counts, IsReadStop};
+ghost use Rattle.speak_core.specs.Accepted.{CommandAsks, NamesAsk, PlanOf, RulesOf, VerbaliserOf, all_rules, need_of};
+ghost use Rattle.speak_core.specs.Commands.{command_of};
+ghost use Rattle.speak_core.specs.Loaded.{Builds, CanLoad, Finds, FindsGrammar, FindsSetup, FindsSpeaker, expressions_of, plan_of};
+ghost use Rattle.speak_core.specs.Stops.{Counts, IsRuleStop, IsReadStop};
 
 use crate::outside::fetch;
-use crate::rules::cascade_of;
+use crate::rules::rules_of;
+use crate::speakers::Speaker;
 use crate::stop::Stop;
 use crate::texts;
+use crate::words::{Command, Mode};
+use core_expressions::Expr;
 use norm_base::{Name, Shelf};
+use normaliser::{LoadFault, load};
 use speak_setup::{Need, Setup, SetupFault, read_setup};
-use state_tuples::Cascade;
 use std::alloc::Global;
 use thrax_link::{Grammar, LinkFault, link};
 
-/// The cascade that the setup of this name asks for.
-pub(crate) fn find_cascade<H: Shelf>(
-    alloc: Global,
-    shelf: &mut H,
-    name: &str,
-) -> Result<Cascade, Stop>
-    ensures finds { IfSome (H.files shelf.old) (λ files. Finds (SetupAsks files name.now) result) }
-    ensures unmarked { IfOk result (λ found. IsUnmarked (ReadsOf found)) }
-    ensures files { H.files shelf.new ≡ H.files shelf.old }
-    ensures counts { Counts (H.faults shelf.old) (H.faults shelf.new) result }
-    ensures stops { IfErr result IsReadStop }
-{
-    match find_setup(alloc, shelf, name) {
-        Ok(setup) => find_named(alloc, shelf, &setup),
-        Err(stop) => Err(stop),
-    }
+/// The rules of a plan, which aren't built yet.
+#[derive(Drop)]
+pub(crate) struct Rules {
+    pub(crate) classifier: Vec<Expr>,
+    /// None in mode classify.
+    pub(crate) verbaliser: Vec<Expr>,
 }
 
-/// The setup of this name.
-fn find_setup<H: Shelf>(alloc: Global, shelf: &mut H, name: &str) -> Result<Setup, Stop>
-    ensures finds { IfSome (H.files shelf.old) (λ files. FindsSetup files name.now result) }
-    ensures names { IfOk result (λ setup. HasNames (names_of setup)) }
+/// The speaker that a command asks for.
+pub(crate) fn find_speaker<H: Shelf>(
+    alloc: Global,
+    shelf: &mut H,
+    command: &Command<'_>,
+) -> Result<Speaker, Stop>
+    ensures finds { IfSome (H.files shelf.old) (λ files. FindsSpeaker (CommandAsks files (command_of command.now)) result) }
     ensures files { H.files shelf.new ≡ H.files shelf.old }
     ensures counts { Counts (H.faults shelf.old) (H.faults shelf.new) result }
     ensures stops { IfErr result IsReadStop }
 {
-    let text = match fetch(shelf, name) {
+    let setup = find_setup(alloc, shelf, command)?;
+    find_named(alloc, shelf, command.mode, &setup)
+}
+
+/// The setup of a command.
+fn find_setup<H: Shelf>(alloc: Global, shelf: &mut H, command: &Command<'_>) -> Result<Setup, Stop>
+    ensures finds { IfSome (H.files shelf.old) (λ files. FindsSetup files (command_of command.now) result) }
+    ensures names { IfOk result (λ setup. HasNames (need_of command.now.mode) (names_of setup)) }
+    ensures files { H.files shelf.new ≡ H.files shelf.old }
+    ensures counts { Counts (H.faults shelf.old) (H.faults shelf.new) result }
+    ensures stops { IfErr result IsReadStop }
+{
+    let text = match fetch(shelf, command.setup) {
         Ok(Some(text)) => text,
         Ok(None) => return Err(Stop::refused(Vec::from_slice(alloc, b"setup: not found\n"))),
         Err(stop) => return Err(stop),
     };
-    match read_setup(alloc, &text, Need::Classifier) {
+    match read_setup(alloc, &text, need_of(command.mode)) {
         Ok(setup) => Ok(setup),
         Err(SetupFault::Memory) => Err(Stop::Memory),
         Err(fault) => Err(Stop::refused(texts::setup(alloc, fault))),
     }
 }
 
-/// The cascade of the rules of a setup.
-fn find_named<H: Shelf>(alloc: Global, shelf: &mut H, setup: &Setup) -> Result<Cascade, Stop>
-    requires { HasNames (names_of setup.now) }
-    ensures finds { IfSome (H.files shelf.old) (λ files. Finds (NamesAsk files (names_of setup.now)) result) }
-    ensures unmarked { IfOk result (λ found. IsUnmarked (ReadsOf found)) }
+/// What a mode needs of its setup.
+fn need_of(mode: Mode) -> Need
+    ensures { result ≡ need_of mode }
+{
+    match mode {
+        Mode::Classify => Need::Classifier,
+        Mode::Speak => Need::Both,
+    }
+}
+
+/// The speaker of the rules of a setup.
+fn find_named<H: Shelf>(
+    alloc: Global,
+    shelf: &mut H,
+    mode: Mode,
+    setup: &Setup,
+) -> Result<Speaker, Stop>
+    requires { HasNames (need_of mode) (names_of setup.now) }
+    ensures finds { IfSome (H.files shelf.old) (λ files. FindsSpeaker (NamesAsk files mode (names_of setup.now)) result) }
     ensures files { H.files shelf.new ≡ H.files shelf.old }
     ensures counts { Counts (H.faults shelf.old) (H.faults shelf.new) result }
     ensures stops { IfErr result IsReadStop }
 {
-    match find_grammar(alloc, shelf, &setup.tokenizer) {
-        Ok(grammar) => { cascade_of(alloc, &grammar, &setup.tokenizer, &setup.tokenizer_rules) }
+    let rules = find_plan(alloc, shelf, mode, setup)?;
+    build(alloc, mode, setup, &rules)
+}
+
+/// The rules of a setup in a mode, the classifier's looked up before the verbaliser's.
+fn find_plan<H: Shelf>(
+    alloc: Global,
+    shelf: &mut H,
+    mode: Mode,
+    setup: &Setup,
+) -> Result<Rules, Stop>
+    requires { HasNames (need_of mode) (names_of setup.now) }
+    ensures finds { IfSome (H.files shelf.old) (λ files. Finds (plan_of mode) (PlanOf files mode (names_of setup.now)) result) }
+    ensures can_load { IfOk result (CanLoad (names_of setup.now)) }
+    ensures files { H.files shelf.new ≡ H.files shelf.old }
+    ensures counts { Counts (H.faults shelf.old) (H.faults shelf.new) result }
+    ensures stops { IfErr result IsReadStop }
+{
+    let classifier = find_rules(alloc, shelf, &setup.tokenizer, &setup.tokenizer_rules)?;
+    let verbaliser = find_verbaliser(alloc, shelf, mode, setup)?;
+    Ok(Rules {
+        classifier,
+        verbaliser,
+    })
+}
+
+/// The verbaliser's rules. Mode classify has none.
+fn find_verbaliser<H: Shelf>(
+    alloc: Global,
+    shelf: &mut H,
+    mode: Mode,
+    setup: &Setup,
+) -> Result<Vec<Expr>, Stop>
+    requires { HasVerbalizer (need_of mode) (names_of setup.now) }
+    ensures finds { IfSome (H.files shelf.old) (λ files. Finds expressions_of (VerbaliserOf files mode (names_of setup.now)) result) }
+    ensures can_be_built { IfOk result (λ rules. All CanBeBuilt (expressions_of rules)) }
+    ensures few { IfOk result (λ rules. length rules.items ≤ most_rules) }
+    ensures named { IfOk result (λ rules. length rules.items ≤ length setup.now.verbalizer_rules.items) }
+    ensures files { H.files shelf.new ≡ H.files shelf.old }
+    ensures counts { Counts (H.faults shelf.old) (H.faults shelf.new) result }
+    ensures stops { IfErr result IsReadStop }
+{
+    match mode {
+        Mode::Classify => Ok(Vec::new(alloc)),
+        Mode::Speak => {
+            let file = setup.verbalizer.as_ref().unwrap();
+            find_rules(alloc, shelf, file, &setup.verbalizer_rules)
+        }
+    }
+}
+
+/// The rules of these names that a grammar file exports.
+fn find_rules<H: Shelf>(
+    alloc: Global,
+    shelf: &mut H,
+    file: &Name,
+    names: &[Name],
+) -> Result<Vec<Expr>, Stop>
+    requires { IsNamed file.now names.now }
+    ensures finds { IfSome (H.files shelf.old) (λ files. Finds expressions_of (RulesOf files file.now names.now) result) }
+    ensures can_be_built { IfOk result (λ rules. All CanBeBuilt (expressions_of rules)) }
+    ensures count { IfOk result (λ rules. length rules.items ≡ length names.now) }
+    ensures files { H.files shelf.new ≡ H.files shelf.old }
+    ensures counts { Counts (H.faults shelf.old) (H.faults shelf.new) result }
+    ensures stops { IfErr result IsReadStop }
+{
+    match find_grammar(alloc, shelf, file) {
+        Ok(grammar) => rules_of(alloc, &grammar, file, names),
         Err(stop) => Err(stop),
     }
 }
@@ -91,5 +179,34 @@ fn find_grammar<H: Shelf>(alloc: Global, shelf: &mut H, file: &Name) -> Result<G
         ) => Err(Stop::refused(texts::refusal(alloc, &file, statement, why))),
         Err(LinkFault::ShelfFault) => Err(Stop::Outside),
         Err(LinkFault::Memory) => Err(Stop::Memory),
+    }
+}
+
+/// The speaker of these rules, or the refusal of the first of which a rewrite may read the empty text.
+fn build(alloc: Global, mode: Mode, setup: &Setup, rules: &Rules) -> Result<Speaker, Stop>
+    requires { CanLoad (names_of setup.now) rules.now }
+    ensures builds { Builds (names_of setup.now) (plan_of mode rules.now) result }
+    ensures stops { IfErr result IsRuleStop }
+{
+    match load(alloc, &rules.classifier, &rules.verbaliser) {
+        Ok(normaliser) => Ok(Speaker { normaliser, mode }),
+        Err(LoadFault::RewritesEmpty { rule }) => {
+            let name = rule_name(setup, rule);
+            Err(Stop::refused(texts::rewrites_empty(alloc, name)))
+        }
+        Err(LoadFault::Memory) => Err(Stop::Memory),
+    }
+}
+
+/// The name of the rule of this number. The verbaliser's rules are counted after the classifier's.
+fn rule_name(setup: &Setup, rule: usize) -> &Name
+    requires { rule < length (all_rules (names_of setup.now)) }
+    ensures { slice_get (all_rules (names_of setup.now)) rule ≡ Some result.now }
+{
+    let first = setup.tokenizer_rules.len();
+    if rule < first {
+        &setup.tokenizer_rules[rule]
+    } else {
+        &setup.verbalizer_rules[rule - first]
     }
 }

@@ -1,52 +1,75 @@
-// From the words of the command to the lines.
+// The lines of a text, batch by batch.
 
-ghost use Rattle.std.specs.Prelude.{◌≡◌, ◌≤◌, ◌^◌, IfErr, IfOk, List, OnOk, length};
+ghost use Rattle.std.specs.Prelude.{◌≡◌, ◌≤◌, ◌<◌, ◌+◌, ◌^◌, IfErr, IfOk, List, OnOk, length};
 ghost use Rattle.std.specs.Io.KnownBytes.{Appends};
 ghost use Rattle.norm_base.specs.Bytes.{AppendsPrefix};
-ghost use Rattle.weighted_relations.specs.Relations.{IsUnmarked};
-ghost use Rattle.speak_core.specs.Answers.{Answer, AllSpoken, written, told};
+ghost use Rattle.normaliser.specs.Lines.{Answer};
+ghost use Rattle.speak_core.specs.Answers.{AllSaid, written, told};
 ghost use Rattle.text_lines.specs.Lines.{lines};
-ghost use Rattle.speak_core.specs.Parts.{ReadsOf, Speaks};
+ghost use Rattle.speak_core.specs.Parts.{Speaks, lines_of, says_of};
 ghost use Rattle.speak_core.specs.Stops.{IsDeviceStop, SinkCounts};
 
-use crate::batches::speak_batch;
+use crate::batches::{answer_lines, cut_batch, tell_answers};
 use crate::outside::put;
+use crate::speakers::Speaker;
 use crate::stop::Stop;
 use norm_base::Sink;
-use state_tuples::Cascade;
 use std::alloc::Global;
 
-/// Speaks each line of a text, and answers whether each was read. What was spoken before a stop is written, where it can be.
+/// Speaks each line of a text, and answers whether each was read. What was told before a stop is written, where it can be.
 pub(crate) fn speak_lines<O: Sink, E: Sink>(
     alloc: Global,
-    cascade: &Cascade,
+    speaker: &Speaker,
     text: &[u8],
     out: &mut O,
     err: &mut E,
 ) -> Result<bool, Stop>
-    requires unmarked { IsUnmarked (ReadsOf cascade.now) }
-    requires small { length text.now ≤ 2 ^ 28 }
-    ensures done { IfOk result (λ is_read. Speaks (ReadsOf cascade.now) (lines text.now) (O.held out.old) (O.held out.new) (E.held err.old) (E.held err.new) is_read) }
-    ensures out_front { (answers : List Answer) → AllSpoken (ReadsOf cascade.now) (lines text.now) answers → AppendsPrefix (O.held out.old) (O.held out.new) (written answers) }
-    ensures err_front { (answers : List Answer) → AllSpoken (ReadsOf cascade.now) (lines text.now) answers → AppendsPrefix (E.held err.old) (E.held err.new) (told 1 answers) }
+    requires { length text.now ≤ 2 ^ 28 }
+    ensures done { IfOk result (λ is_read. Speaks (says_of speaker.now) 1 (lines text.now) (O.held out.old) (O.held out.new) (E.held err.old) (E.held err.new) is_read) }
+    ensures out_front { (answers : List Answer) → AllSaid (says_of speaker.now) (lines text.now) answers → AppendsPrefix (O.held out.old) (O.held out.new) (written answers) }
+    ensures err_front { (answers : List Answer) → AllSaid (says_of speaker.now) (lines text.now) answers → AppendsPrefix (E.held err.old) (E.held err.new) (told 1 answers) }
     ensures counts { SinkCounts (O.faults out.old) (O.faults out.new) (E.faults err.old) (E.faults err.new) result }
     ensures later { E.faults err.old ≤ E.faults err.new }
     ensures stops { IfErr result IsDeviceStop }
 {
     let mut rest = text;
-    let mut number = 0u64;
+    let mut number = 1u64;
     let mut is_read = true;
     while !rest.is_empty() {
-        let batch = speak_batch(alloc, cascade, rest, number);
-        put_both(out, &batch.words, err, &batch.faults)?;
-        if !batch.is_whole {
-            return Err(Stop::Memory);
-        }
-        is_read = is_read && batch.is_read;
-        number = batch.number;
+        let batch = cut_batch(alloc, rest)?;
+        let now_read = speak_batch(alloc, speaker, &batch.lines, number, out, err)?;
+        is_read = is_read && now_read;
+        number += batch.lines.len() as u64;
         rest = batch.rest;
     }
     Ok(is_read)
+}
+
+/// Speaks the lines of a batch, which are numbered on from this number, and answers whether each was read.
+fn speak_batch<O: Sink, E: Sink>(
+    alloc: Global,
+    speaker: &Speaker,
+    batch: &[&[u8]],
+    first: u64,
+    out: &mut O,
+    err: &mut E,
+) -> Result<bool, Stop>
+    requires { first + length batch.now < 2 ^ 64 }
+    ensures done { IfOk result (λ is_read. Speaks (says_of speaker.now) first (lines_of batch.now) (O.held out.old) (O.held out.new) (E.held err.old) (E.held err.new) is_read) }
+    ensures out_front { (answers : List Answer) → AllSaid (says_of speaker.now) (lines_of batch.now) answers → AppendsPrefix (O.held out.old) (O.held out.new) (written answers) }
+    ensures err_front { (answers : List Answer) → AllSaid (says_of speaker.now) (lines_of batch.now) answers → AppendsPrefix (E.held err.old) (E.held err.new) (told first answers) }
+    ensures counts { SinkCounts (O.faults out.old) (O.faults out.new) (E.faults err.old) (E.faults err.new) result }
+    ensures later { E.faults err.old ≤ E.faults err.new }
+    ensures stops { IfErr result IsDeviceStop }
+{
+    let answers = answer_lines(alloc, speaker, batch);
+    let told = tell_answers(alloc, &answers.all, first);
+    put_both(out, &told.words, err, &told.faults)?;
+    if answers.is_whole && told.is_whole {
+        Ok(told.faults.is_empty())
+    } else {
+        Err(Stop::Memory)
+    }
 }
 
 /// Writes to both sinks, to the second also where the first fails.

@@ -4,12 +4,12 @@ ghost use Rattle.std.specs.Prelude.{◌≡◌, ◌⊎◌, ◌≤◌, ◌^◌, If
 ghost use Rattle.std.specs.Io.KnownBytes.{IsAtEnd};
 ghost use Rattle.norm_base.specs.Bytes.{AppendsPrefix};
 ghost use Rattle.norm_base.specs.Counts.{Rose};
-ghost use Rattle.weighted_relations.specs.Expressions.{Expression};
-ghost use Rattle.speak_core.specs.Accepted.{Accepted, Asks, IsRefusal, refused};
-ghost use Rattle.speak_core.specs.Commands.{setup_name};
+ghost use Rattle.speak_core.specs.Accepted.{Accepted, IsRefusal, Refused};
+ghost use Rattle.speak_core.specs.Commands.{command_in};
 ghost use Rattle.speak_core.specs.Devices.{NoneRose, OfInput, SomeRose, seen, sink_seen};
 ghost use Rattle.speak_core.specs.Inputs.{GaveTooMuch, IfGaveTooMuch};
 ghost use Rattle.speak_core.specs.Owed.{OfOwed, SpeaksAll};
+ghost use Rattle.speak_core.specs.Plans.{Plan};
 ghost use Rattle.speak_core.specs.Stops.{IsEnd, IsStatus, text_of, last_text};
 ghost use Rattle.speak_core.specs.declared.stop.Stop.TheVariants.{Words, Outside, Memory, TooLong};
 ghost use Rattle.speak_core.specs.Told.{TellsLast, TellsShort, TellsStop, TellsTwice};
@@ -22,13 +22,17 @@ use norm_base::{Shelf, Sink, Source};
 use std::alloc::Global;
 use std::thread::Threads;
 
-/// Speaks the lines of the source by the cascade of rules that the words and the files of the shelf name, and answers the status.
+/// Speaks the lines of the source by the rules that the words and the files of the shelf name, and answers the status.
 ///
-/// The words after the program's name are `--setup`, the name of a setup, `--mode` and `classify`. The setup's grammar is linked
-/// with all that it imports, and its rules, one to `speak_setup::MOST_RULES`, are looked up and built. Then the whole input is read, of at most
-/// 268,435,456 bytes, and `out` gets for each line the output of its least reading through all rules, one after another, and a
-/// LF, or the LF alone where the line is refused. `err` gets the number of each such line with its first fault: a byte 0, more
-/// than 16,384 bytes, or no reading. An empty line says nothing and isn't refused.
+/// The words after the program's name are `--setup`, the name of a setup, `--mode` and `classify` or `speak`. The tokeniser's grammar is
+/// linked with all that it imports, and its rules, one to `speak_setup::MOST_RULES`, are looked up; in mode speak the verbaliser's
+/// after them. Then the rules are built and the whole input is read, of at most 268,435,456 bytes.
+///
+/// In mode classify `out` gets for each line the output of its least reading through all rules of the tokeniser, one after another, and a
+/// LF. In mode speak it gets the words of the tokens that this output is, with single spaces between, and a LF; a record's words are the
+/// output of the least reading through all rules of the verbaliser over all texts of the record. A refused line gives the LF alone, and
+/// `err` gets its number with its first fault: a byte 0, more than 16,384 bytes, or no reading; in mode speak also no token
+/// text, a record with more than 10 fields in any order, or a token without words. An empty line says nothing and isn't refused.
 ///
 /// Status 0: each line was read. 1: some line is refused. 2: the words are wrong. 3: the setup, a grammar or a rule is
 /// refused. 4: a device failed, in place of 3 the shelf. 5: memory is wanting. 6: the input is too long. From 2 on, the cause is told to `err` last.
@@ -47,10 +51,10 @@ pub fn speak<R: Threads + Sync, H: Shelf, S: Source, O: Sink, E: Sink, W: Watch 
     ensures range { result ≤ 6 }
 
     // The cause of each status. Of a setup, a grammar or a rule that is refused, a fault of a device is the shelf's.
-    ensures wrong_words { result ≡ 2 → setup_name words.now ≡ None }
-    ensures only_wrong_words { setup_name words.now ≡ None → (result ≡ 2) ⊎ (result ≡ 5) }
+    ensures wrong_words { result ≡ 2 → command_in words.now ≡ None }
+    ensures only_wrong_words { command_in words.now ≡ None → (result ≡ 2) ⊎ (result ≡ 5) }
     ensures refused { result ≡ 3 → IfSome (H.files shelf.old) (λ files. (text : List ℕ) × IsRefusal words.now files text) }
-    ensures only_refused { IfSome (H.files shelf.old) (λ files. (text : List ℕ) → Asks words.now files (refused text)
+    ensures only_refused { IfSome (H.files shelf.old) (λ files. (text : List ℕ) → Refused words.now files text
         → (result ≡ 3) ⊎ ((result ≡ 5) ⊎ ((result ≡ 4) × Rose (H.faults shelf.old) (H.faults shelf.new)))) }
     ensures outside { let devices = seen H.Shelf S.Source O.Sink E.Sink shelf.old source.old out.old err.old shelf.new source.new out.new err.new in
         result ≡ 4 → SomeRose devices }
@@ -65,23 +69,20 @@ pub fn speak<R: Threads + Sync, H: Shelf, S: Source, O: Sink, E: Sink, W: Watch 
     ensures some_refused { let devices = seen H.Shelf S.Source O.Sink E.Sink shelf.old source.old out.old err.old shelf.new source.new out.new err.new in
         result ≡ 1 → SpeaksAll words.now devices false }
     ensures end { result ≤ 1 → IsAtEnd (S.left source.new) }
-    ensures front { let devices = seen H.Shelf S.Source O.Sink E.Sink shelf.old source.old out.old err.old shelf.new source.new out.new err.new in
-        OfOwed words.now devices (λ output faults. AppendsPrefix (O.held out.old) (O.held out.new) output) }
+    ensures front { OfOwed words.now (H.files shelf.old) (S.left source.old) (λ output faults. AppendsPrefix (O.held out.old) (O.held out.new) output) }
     ensures silent { (result ≡ 2) ⊎ (result ≡ 3) → O.held out.new ≡ O.held out.old }
 
     // With all accepted, no count that rose and an input within its limit, the lines are spoken or memory is wanting.
     ensures complete { let devices = seen H.Shelf S.Source O.Sink E.Sink shelf.old source.old out.old err.old shelf.new source.new out.new err.new in
-        OfInput devices (λ files input. (es : List Expression) → Accepted words.now files es → length input ≤ 2 ^ 28 → (SomeRose devices → ⊥)
+        OfInput (H.files shelf.old) (S.left source.old) (λ files input. (plan : Plan) → Accepted words.now files plan → length input ≤ 2 ^ 28 → (SomeRose devices → ⊥)
         → (result ≤ 1) ⊎ (result ≡ 5)) }
 
     // What is told last.
     ensures told_words { result ≡ 2 → TellsLast (sink_seen E.Sink err.old) (sink_seen E.Sink err.new) [] (text_of Words) }
-    ensures told_refused { result ≡ 3 → IfSome (H.files shelf.old) (λ files. (text : List ℕ) → Asks words.now files (refused text)
+    ensures told_refused { result ≡ 3 → IfSome (H.files shelf.old) (λ files. (text : List ℕ) → Refused words.now files text
         → TellsLast (sink_seen E.Sink err.old) (sink_seen E.Sink err.new) [] text) }
-    ensures told_outside { let devices = seen H.Shelf S.Source O.Sink E.Sink shelf.old source.old out.old err.old shelf.new source.new out.new err.new in
-        result ≡ 4 → OfOwed words.now devices (λ output faults. TellsLast devices.before.err devices.after.err faults (text_of Outside)) }
-    ensures told_too_long { let devices = seen H.Shelf S.Source O.Sink E.Sink shelf.old source.old out.old err.old shelf.new source.new out.new err.new in
-        result ≡ 6 → OfOwed words.now devices (λ output faults. TellsLast devices.before.err devices.after.err faults (text_of TooLong)) }
+    ensures told_outside { result ≡ 4 → OfOwed words.now (H.files shelf.old) (S.left source.old) (λ output faults. TellsLast (sink_seen E.Sink err.old) (sink_seen E.Sink err.new) faults (text_of Outside)) }
+    ensures told_too_long { result ≡ 6 → OfOwed words.now (H.files shelf.old) (S.left source.old) (λ output faults. TellsLast (sink_seen E.Sink err.old) (sink_seen E.Sink err.new) faults (text_of TooLong)) }
     ensures told_memory { let devices = seen H.Shelf S.Source O.Sink E.Sink shelf.old source.old out.old err.old shelf.new source.new out.new err.new in
         result ≡ 5 → TellsShort words.now devices }
 

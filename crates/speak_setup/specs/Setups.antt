@@ -1,5 +1,5 @@
 -- The setup that a text is, or its first fault.
-use Rattle.std.specs.Prelude.{◌≡◌, ℕ, ◌+◌, ◌≤◌, List, [], ◌∷◌, ◌++◌, Bool, true, false, length, ◌==◌, Option, None, Some, Result, Ok, Err, if◌then◌else◌}
+use Rattle.std.specs.Prelude.{◌≡◌, ℕ, ◌+◌, ◌≤◌, List, [], ◌∷◌, ◌++◌, Bool, true, false, length, ◌==◌, Option, None, Some, IsSomeAnd, Result, Ok, Err, if◌then◌else◌}
 use Rattle.std.specs.List.{All}
 use Rattle.std.specs.Option.{option_to_list}
 use Rattle.text_lines.specs.Lines.{lines}
@@ -115,11 +115,21 @@ names_of setup = record {
   verbalizer_rules = setup.verbalizer_rules.items;
 }
 
--- the bytes of the grammar's name are from 32 to 126, and there is a rule
-pub record HasNames (names : SetupNames) : Type 0 where
-  pub printed : All (λ b. (32 ≤ b) × (b ≤ 126)) names.tokenizer
-  pub some : 1 ≤ length names.tokenizer_rules
-  pub few : length names.tokenizer_rules ≤ most_rules
+-- the bytes of a grammar's name are from 32 to 126, and it has 1 to as many rules as a cascade may have
+pub record IsNamed (grammar : List ℕ) (rules : List (List ℕ)) : Type 0 where
+  pub printed : All (λ b. (32 ≤ b) × (b ≤ 126)) grammar
+  pub some : 1 ≤ length rules
+  pub few : length rules ≤ most_rules
+
+-- the verbaliser's grammar and its rules, where they are needed
+abbrev pub HasVerbalizer : Need → SetupNames → Type 0
+HasVerbalizer Both names = IsSomeAnd names.verbalizer (λ grammar. IsNamed grammar names.verbalizer_rules)
+HasVerbalizer Classifier names = Unit {0}
+
+-- a setup has what is needed of it
+pub record HasNames (need : Need) (names : SetupNames) : Type 0 where
+  pub tokenizer : IsNamed names.tokenizer names.tokenizer_rules
+  pub verbalizer : HasVerbalizer need names
 
 -- no line is at fault, no key is missing, and these are the values
 pub record IsSetup (need : Need) (lines : List (List ℕ)) (names : SetupNames) : Type 0 where

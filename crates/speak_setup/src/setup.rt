@@ -73,7 +73,7 @@ impl<T: Drop> From<AllocFailed<T>> for SetupFault {
 pub fn read_setup(alloc: Global, text: &[u8], need: Need) -> Result<Setup, SetupFault>
     ensures read { IfSome (outcome_of result) (λ outcome. SetupText need text.now outcome) }
     ensures only { IfSome (outcome_of result) (λ outcome. (other : Result SetupNames SetupFault) → SetupText need text.now other → other ≡ outcome) }
-    ensures names { IfOk result (λ setup. HasNames (names_of setup)) }
+    ensures names { IfOk result (λ setup. HasNames need (names_of setup)) }
 {
     read_entries(alloc, text)?.complete(alloc, need)
 }

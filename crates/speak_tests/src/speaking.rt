@@ -8,7 +8,12 @@ use std::thread::Threads;
 
 const SETUP: &[u8] = b"tokenizer_grammar: \"g.grm\"\ntokenizer_rule: \"MAIN\"\n";
 
-const COMMAND: [&str; 5] = ["speak", "--setup", "s", "--mode", "classify"];
+const CLASSIFY: [&str; 5] = ["speak", "--setup", "s", "--mode", "classify"];
+
+const SPEAK: [&str; 5] = ["speak", "--setup", "s", "--mode", "speak"];
+
+const BOTH: &[u8] =
+    b"tokenizer_grammar: \"g.grm\"\ntokenizer_rule: \"MAIN\"\nverbalizer_grammar: \"v.grm\"\nverbalizer_rule: \"V\"\n";
 
 // What a run left: its status, its output and its errors.
 #[derive(Drop)]
@@ -37,7 +42,7 @@ fn files_of(alloc: Global, files: &[(&str, &[u8])]) -> Result<Vec<(Name, Vec<u8>
     Ok(all)
 }
 
-// A run of the command over these files and one more, which is the setup, on devices that don't fail.
+// A run of mode classify over these files and one more, which is the setup, on devices that don't fail.
 fn run_files<R: Threads + Sync>(
     rt: &R,
     alloc: Global,
@@ -46,9 +51,21 @@ fn run_files<R: Threads + Sync>(
     other: (&str, &[u8]),
     input: &[u8],
 ) -> Result<Left, AllocError> {
-    let files = files_of(alloc, &[("s", setup), ("g.grm", grammar), other])?;
+    let files = [("s", setup), ("g.grm", grammar), other];
+    run(rt, alloc, &CLASSIFY, &files, input)
+}
+
+// A run of these words over these files, on devices that don't fail.
+fn run<R: Threads + Sync>(
+    rt: &R,
+    alloc: Global,
+    command: &[&str],
+    files: &[(&str, &[u8])],
+    input: &[u8],
+) -> Result<Left, AllocError> {
     let source = MemSource::new(Vec::from_slice(alloc, input)?, 2, Vec::new(alloc));
-    run_with(rt, alloc, &COMMAND, files, source, &[&[], &[], &[]])
+    let files = files_of(alloc, files)?;
+    run_with(rt, alloc, command, files, source, &[&[], &[], &[]])
 }
 
 // A run of these words, on devices whose calls of these numbers fail: the shelf's, the output's and the errors'.
@@ -776,7 +793,7 @@ fn a_chain_of_33_files_is_refused(rt: HostRuntime) -> Result<(), Fail> {
     let left = run_with(
         &rt,
         alloc,
-        &COMMAND,
+        &CLASSIFY,
         chain(alloc)?,
         source,
         &[&[], &[], &[]],
@@ -826,7 +843,7 @@ fn the_first_fault_of_a_line_is_told(rt: HostRuntime) -> Result<(), Fail> {
 }
 
 // Words, the calls of the shelf, the source, the output and the errors that fail, the output, the errors, the status.
-const RUNS: [(&[&str], [&[u64]; 4], &[u8], &[u8], u8); 21] = [
+const RUNS: [(&[&str], [&[u64]; 4], &[u8], &[u8], u8); 22] = [
     (&[], [&[]; 4], b"", b"bad arguments\n", 2),
     (&["speak"], [&[]; 4], b"", b"bad arguments\n", 2),
     (
@@ -844,11 +861,18 @@ const RUNS: [(&[&str], [&[u64]; 4], &[u8], &[u8], u8); 21] = [
         2,
     ),
     (
-        &["speak", "--setup", "s", "--mode", "speak"],
+        &["speak", "--setup", "s", "--mode", "check"],
         [&[]; 4],
         b"",
         b"bad arguments\n",
         2,
+    ),
+    (
+        &SPEAK,
+        [&[]; 4],
+        b"",
+        b"setup: verbalizer_grammar is missing\n",
+        3,
     ),
     (
         &["speak", "--setup", "s", "--mode", "Classify"],
@@ -888,40 +912,40 @@ const RUNS: [(&[&str], [&[u64]; 4], &[u8], &[u8], u8); 21] = [
     // a refusal that cannot be told keeps its status
     (&["speak"], [&[], &[], &[], &[2]], b"", b"bad a", 2),
     // a device that fails ends a run
-    (&COMMAND, [&[1], &[], &[], &[]], b"", b"outside fault\n", 4),
-    (&COMMAND, [&[2], &[], &[], &[]], b"", b"outside fault\n", 4),
-    (&COMMAND, [&[], &[1], &[], &[]], b"", b"outside fault\n", 4),
-    (&COMMAND, [&[], &[3], &[], &[]], b"", b"outside fault\n", 4),
+    (&CLASSIFY, [&[1], &[], &[], &[]], b"", b"outside fault\n", 4),
+    (&CLASSIFY, [&[2], &[], &[], &[]], b"", b"outside fault\n", 4),
+    (&CLASSIFY, [&[], &[1], &[], &[]], b"", b"outside fault\n", 4),
+    (&CLASSIFY, [&[], &[3], &[], &[]], b"", b"outside fault\n", 4),
     (
-        &COMMAND,
+        &CLASSIFY,
         [&[], &[], &[1], &[]],
         b"",
         b"line 2: no path\noutside fault\n",
         4,
     ),
     (
-        &COMMAND,
+        &CLASSIFY,
         [&[], &[], &[3], &[]],
         b"b\n",
         b"line 2: no path\noutside fault\n",
         4,
     ),
     (
-        &COMMAND,
+        &CLASSIFY,
         [&[], &[], &[], &[1]],
         b"b\n\n",
         b"outside fault\n",
         4,
     ),
     (
-        &COMMAND,
+        &CLASSIFY,
         [&[], &[], &[], &[2]],
         b"b\n\n",
         b"line outside fault\n",
         4,
     ),
-    (&COMMAND, [&[], &[], &[], &[1, 3]], b"b\n\n", b"outsi", 4),
-    (&COMMAND, [&[], &[], &[4], &[1, 2]], b"b\n\n", b"", 4),
+    (&CLASSIFY, [&[], &[], &[], &[1, 3]], b"b\n\n", b"outsi", 4),
+    (&CLASSIFY, [&[], &[], &[4], &[1, 2]], b"b\n\n", b"", 4),
 ];
 
 #[test]
@@ -938,6 +962,249 @@ fn runs_end_with_their_status(rt: HostRuntime) -> Result<(), Fail> {
         assert_eq!(rt; left.err.bytes(), err);
         assert_eq!(rt; left.status, status);
     }
+    Ok(())
+}
+
+// The classifier's output for the line x, an input, the output, the errors, the status. The verbaliser knows one order of ten
+// fields, one of a date, and a letter.
+const TOKENS: [(&str, &[u8], &[u8], &[u8], u8); 10] = [
+    // any order of the fields
+    (
+        "tokens { date { day: \\\"2\\\" month: \\\"may\\\" } }",
+        b"x\n",
+        b"may second\n",
+        b"",
+        0,
+    ),
+    (
+        "tokens { date { day: \\\"2\\\" month: \\\"may\\\" preserve_order: true } }",
+        b"x\n",
+        b"\n",
+        b"line 1: token 1 has no words\n",
+        1,
+    ),
+    (
+        "tokens { c { a: \\\"1\\\" b: \\\"1\\\" c: \\\"1\\\" d: \\\"1\\\" e: \\\"1\\\" f: \\\"1\\\" g: \\\"1\\\" h: \\\"1\\\" i: \\\"1\\\" j: \\\"1\\\" k: \\\"1\\\" } }",
+        b"x\ny\n",
+        b"\nok\n",
+        b"line 1: token 1 has more than 10 fields\n",
+        1,
+    ),
+    // tokens, and what is between them
+    (
+        "tokens{name:\\\"a\\\"}tokens{type:PUNCT}tokens{name:\\\"b\\\"}",
+        b"x\n\nx\n",
+        b"a b\n\na b\n",
+        b"",
+        0,
+    ),
+    (
+        "tokens { name: \\\"a\\\" } tokens {",
+        b"x\n",
+        b"\n",
+        b"line 1: not token text after 1 tokens\n",
+        1,
+    ),
+    (
+        "y",
+        b"x\n",
+        b"\n",
+        b"line 1: not token text after 0 tokens\n",
+        1,
+    ),
+    ("", b"x\n", b"\n", b"", 0),
+    // the first fault of a line
+    (
+        "tokens { l { l: \\\"a\\\" } } tokens { l { l: \\\"b\\\" } } tokens { l { l: \\\"c\\\" } }",
+        b"x\n",
+        b"\n",
+        b"line 1: token 2 has no words\n",
+        1,
+    ),
+    (
+        "tokens { name: \\\"a\\\" } tokens { l { l: \\\"a\\\" } }",
+        b"x\nz\nx\n",
+        b"a letter\n\na letter\n",
+        b"line 2: no path\n",
+        1,
+    ),
+    (
+        "tokens { l { l: \\\"b\\\" } }",
+        b"\0x\nx\n",
+        b"\n\n",
+        b"line 1: byte 0 at 0\nline 2: token 1 has no words\n",
+        1,
+    ),
+];
+
+const VERBALIZER: &[u8] =
+    b"export V = (\"date|month:may|day:2|\" : \"may second\") | (\"l|l:a|\" : \"letter\") | (\"c|j:1|i:1|h:1|g:1|f:1|e:1|d:1|c:1|b:1|a:1|\" : \"ok\");";
+
+#[test]
+fn tokens_are_spoken(rt: HostRuntime) -> Result<(), Fail> {
+    let alloc = rt.alloc();
+    let ten =
+        "tokens { c { a: \\\"1\\\" b: \\\"1\\\" c: \\\"1\\\" d: \\\"1\\\" e: \\\"1\\\" f: \\\"1\\\" g: \\\"1\\\" h: \\\"1\\\" i: \\\"1\\\" j: \\\"1\\\" } }";
+    for (tokens, input, out, err, status) in TOKENS {
+        let grammar = format!(in alloc;
+            "export MAIN = (\"x\" : \"{tokens}\") | (\"y\" : \"{ten}\");"
+        )?;
+        let files = [
+            ("s", BOTH),
+            ("g.grm", grammar.as_bytes()),
+            ("v.grm", VERBALIZER),
+        ];
+        let left = run(&rt, alloc, &SPEAK, &files, input)?;
+        assert_eq!(rt; left.err.bytes(), err);
+        assert_eq!(rt; left.out.bytes(), out);
+        assert_eq!(rt; left.status, status);
+    }
+    Ok(())
+}
+
+const TOY_SETUP: &[u8] =
+    b"tokenizer_grammar: \"toy_classify.grm\"\ntokenizer_rule: \"MAIN\"\nverbalizer_grammar: \"toy_verbalize.grm\"\nverbalizer_rule: \"WORDS\"\n";
+
+const TOY_CLASSIFY: &[u8] =
+    b"nonzero = \"1\" | \"2\" | \"3\" | \"4\" | \"5\" | \"6\" | \"7\" | \"8\" | \"9\";\ndigit = \"0\" | nonzero;\nletter = \"a\" | \"b\" | \"c\" | \"d\" | \"e\" | \"f\" | \"g\" | \"h\" | \"i\" | \"j\" | \"k\" | \"l\" | \"m\"\n       | \"n\" | \"o\" | \"p\" | \"q\" | \"r\" | \"s\" | \"t\" | \"u\" | \"v\" | \"w\" | \"x\" | \"y\" | \"z\";\nmonth = \"january\" | \"february\" | \"march\" | \"april\" | \"may\" | \"june\" | \"july\"\n      | \"august\" | \"september\" | \"october\" | \"november\" | \"december\";\nnumber = digit | (nonzero digit);\nday = nonzero | ((\"1\" | \"2\") digit) | \"30\" | \"31\";\nname = (\"\" : \"tokens { name: \\\"\") (letter+) (\"\" : \"\\\" }\");\ncardinal = (\"\" : \"tokens { cardinal { integer: \\\"\") number (\"\" : \"\\\" } }\");\ndate = (\"\" : \"tokens { date { day: \\\"\") day (\" \" : \"\\\" month: \\\"\") month (\"\" : \"\\\" } }\");\nstop = \".\" : \"tokens { name: \\\".\\\" type: PUNCT }\";\nitem = (name | cardinal | date | stop) <1>;\nexport MAIN = item (\" \" item)*;\n";
+
+const TOY_VERBALIZE: &[u8] =
+    b"unit = (\"1\" : \"one\") | (\"2\" : \"two\") | (\"3\" : \"three\") | (\"4\" : \"four\") | (\"5\" : \"five\")\n     | (\"6\" : \"six\") | (\"7\" : \"seven\") | (\"8\" : \"eight\") | (\"9\" : \"nine\");\nteen = (\"10\" : \"ten\") | (\"11\" : \"eleven\") | (\"12\" : \"twelve\") | (\"13\" : \"thirteen\")\n     | (\"14\" : \"fourteen\") | (\"15\" : \"fifteen\") | (\"16\" : \"sixteen\")\n     | (\"17\" : \"seventeen\") | (\"18\" : \"eighteen\") | (\"19\" : \"nineteen\");\nten = (\"2\" : \"twenty\") | (\"3\" : \"thirty\") | (\"4\" : \"forty\") | (\"5\" : \"fifty\")\n    | (\"6\" : \"sixty\") | (\"7\" : \"seventy\") | (\"8\" : \"eighty\") | (\"9\" : \"ninety\");\nnumber = (\"0\" : \"zero\") | unit | teen | (ten (\"0\" : \"\")) | (ten (\"\" : \" \") unit);\nnth = (\"1\" : \"first\") | (\"2\" : \"second\") | (\"3\" : \"third\") | (\"4\" : \"fourth\")\n    | (\"5\" : \"fifth\") | (\"6\" : \"sixth\") | (\"7\" : \"seventh\") | (\"8\" : \"eighth\")\n    | (\"9\" : \"ninth\");\nday = nth | (\"10\" : \"tenth\") | (\"11\" : \"eleventh\") | (\"12\" : \"twelfth\")\n    | (\"13\" : \"thirteenth\") | (\"14\" : \"fourteenth\") | (\"15\" : \"fifteenth\")\n    | (\"16\" : \"sixteenth\") | (\"17\" : \"seventeenth\") | (\"18\" : \"eighteenth\")\n    | (\"19\" : \"nineteenth\") | (\"20\" : \"twentieth\") | ((\"2\" : \"twenty \") nth)\n    | (\"30\" : \"thirtieth\") | (\"31\" : \"thirty first\");\nmonth = \"january\" | \"february\" | \"march\" | \"april\" | \"may\" | \"june\" | \"july\"\n      | \"august\" | \"september\" | \"october\" | \"november\" | \"december\";\ncardinal = (\"cardinal|integer:\" : \"\") number (\"|\" : \"\");\ndate = (\"date|month:\" : \"\") month (\"|day:\" : \" \") day (\"|\" : \"\");\nexport WORDS = cardinal | date;\n";
+
+// The grammar of the example `toy`: names, numbers, dates and stops.
+#[test]
+fn a_toy_grammar_speaks(rt: HostRuntime) -> Result<(), Fail> {
+    let files = [
+        ("s", TOY_SETUP),
+        ("toy_classify.grm", TOY_CLASSIFY),
+        ("toy_verbalize.grm", TOY_VERBALIZE),
+    ];
+    let input = b"3 cats\nrain .\n2 may\n31 december 20 dogs\nRain\n.\n";
+    let left = run(&rt, rt.alloc(), &SPEAK, &files, input)?;
+    assert_eq!(rt; left.err.bytes(), b"line 5: no path\n".as_slice());
+    assert_eq!(rt;
+        left.out.bytes(),
+        b"three cats\nrain\nmay second\ndecember thirty first twenty dogs\n\n\n".as_slice()
+    );
+    assert_eq!(rt; left.status, 1);
+    Ok(())
+}
+
+// The verbaliser's grammar, a classifier, the refusal of mode speak.
+const UNSPOKEN: [(&[u8], &[u8], &[u8]); 6] = [
+    (
+        b"",
+        b"export MAIN = \"a\" : \"b\";",
+        b"setup: no rule V in v.grm\n",
+    ),
+    (
+        b"V = \"[BOS]\"; export W = \"a\";",
+        b"export MAIN = \"a\" : \"b\";",
+        b"setup: no rule V in v.grm\n",
+    ),
+    (
+        b"export V = ;",
+        b"export MAIN = \"a\" : \"b\";",
+        b"v.grm: statement 1: syntax\n",
+    ),
+    (
+        b"export V = \"[BOS]\" | CDRewrite[\"\" : \"b\", \"\", \"\", \"a\"*];",
+        b"export MAIN = \"a\" : \"b\";",
+        b"setup: rule V in v.grm holds a mark\n",
+    ),
+    (
+        b"export V = CDRewrite[\"\" : \"b\", \"\", \"\", \"a\"*];",
+        b"export MAIN = \"a\" : \"b\";",
+        b"setup: rule V rewrites the empty text\n",
+    ),
+    (
+        b"import 'no.grm' as no; export V = \"a\";",
+        b"export MAIN = \"a\" : \"b\";",
+        b"v.grm: statement 1: not found no.grm\n",
+    ),
+];
+
+// A verbaliser that is refused in mode speak isn't looked at in mode classify.
+#[test]
+fn verbalisers_are_refused(rt: HostRuntime) -> Result<(), Fail> {
+    let alloc = rt.alloc();
+    for (verbaliser, grammar, err) in UNSPOKEN {
+        let files = [("s", BOTH), ("g.grm", grammar), ("v.grm", verbaliser)];
+        let left = run(&rt, alloc, &SPEAK, &files, b"a\n")?;
+        assert_eq!(rt; left.err.bytes(), err);
+        assert_eq!(rt; left.out.bytes(), b"".as_slice());
+        assert_eq!(rt; left.status, 3);
+        let left = run(&rt, alloc, &CLASSIFY, &files, b"a\n")?;
+        assert_eq!(rt; left.out.bytes(), b"b\n".as_slice());
+        assert_eq!(rt; left.status, 0);
+    }
+    Ok(())
+}
+
+// Setups and classifiers whose refusal comes before the verbaliser's, or beside it.
+const FIRST: [(&[u8], &[u8], &[u8]); 5] = [
+    (
+        b"tokenizer_grammar: \"g.grm\"\ntokenizer_rule: \"MAIN\"\nverbalizer_grammar: \"v.grm\"\n",
+        b"export MAIN = \"a\";",
+        b"setup: verbalizer_rule is missing\n",
+    ),
+    (
+        b"tokenizer_grammar: \"g.grm\"\ntokenizer_rule: \"NONE\"\nverbalizer_grammar: \"no.grm\"\nverbalizer_rule: \"V\"\n",
+        b"export MAIN = \"a\";",
+        b"setup: no rule NONE in g.grm\n",
+    ),
+    (
+        b"tokenizer_grammar: \"g.grm\"\ntokenizer_rule: \"MAIN\"\nverbalizer_grammar: \"no.grm\"\nverbalizer_rule: \"V\"\n",
+        b"export MAIN = CDRewrite[\"\" : \"b\", \"\", \"\", \"a\"*];",
+        b"no.grm: statement 0: not found no.grm\n",
+    ),
+    (
+        b"tokenizer_grammar: \"g.grm\"\ntokenizer_rule: \"MAIN\"\nverbalizer_grammar: \"g.grm\"\nverbalizer_rule: \"FULL\"\nverbalizer_rule: \"EMPTY\"\n",
+        b"export MAIN = \"a\"; export FULL = \"a\"; export EMPTY = CDRewrite[\"\" : \"b\", \"\", \"\", \"a\"*];",
+        b"setup: rule EMPTY rewrites the empty text\n",
+    ),
+    (
+        b"tokenizer_grammar: \"g.grm\"\ntokenizer_rule: \"EMPTY\"\nverbalizer_grammar: \"g.grm\"\nverbalizer_rule: \"TOO\"\n",
+        b"export EMPTY = CDRewrite[\"\" : \"b\", \"\", \"\", \"a\"*]; export TOO = EMPTY;",
+        b"setup: rule EMPTY rewrites the empty text\n",
+    ),
+];
+
+#[test]
+fn the_first_refusal_is_told(rt: HostRuntime) -> Result<(), Fail> {
+    for (setup, grammar, err) in FIRST {
+        let files = [("s", setup), ("g.grm", grammar)];
+        let left = run(&rt, rt.alloc(), &SPEAK, &files, b"a\n")?;
+        assert_eq!(rt; left.err.bytes(), err);
+        assert_eq!(rt; left.out.bytes(), b"".as_slice());
+        assert_eq!(rt; left.status, 3);
+    }
+    Ok(())
+}
+
+// A batch has 1,024 lines.
+#[test]
+fn a_line_past_a_batch_is_spoken(rt: HostRuntime) -> Result<(), Fail> {
+    let alloc = rt.alloc();
+    let mut input = Vec::new(alloc);
+    let mut out = Vec::new(alloc);
+    for _ in 0..1024 {
+        input.extend_from_slice(b"a\n")?;
+        out.extend_from_slice(b"b\n")?;
+    }
+    input.extend_from_slice(b"c")?;
+    out.push(b'\n')?;
+    let left = run_files(
+        &rt,
+        alloc,
+        SETUP,
+        b"export MAIN = \"a\" : \"b\";",
+        ("", b""),
+        &input,
+    )?;
+    assert_eq!(rt; left.out.bytes(), out.as_slice());
+    assert_eq!(rt; left.err.bytes(), b"line 1025: no path\n".as_slice());
+    assert_eq!(rt; left.status, 1);
     Ok(())
 }
 
@@ -972,7 +1239,7 @@ fn an_input_past_its_limit_is_refused(rt: HostRuntime) -> Result<(), Fail> {
     let alloc = rt.alloc();
     let files = files_of(alloc, &[("s", SETUP), ("g.grm", b"export MAIN = \"b\";")])?;
     let source = Long { left: 268_435_457 };
-    let left = run_with(&rt, alloc, &COMMAND, files, source, &[&[], &[], &[]])?;
+    let left = run_with(&rt, alloc, &CLASSIFY, files, source, &[&[], &[], &[]])?;
     assert_eq!(rt; left.status, 6);
     assert_eq!(rt; left.out.bytes(), b"".as_slice());
     assert_eq!(rt; left.err.bytes(), b"input too long\n".as_slice());

@@ -1,16 +1,20 @@
-use Rattle.std.proofs.Common.{IfSome, List, ℕ, subst}
+use Rattle.std.proofs.Common.{IfSome, rules}
+use Rattle.std.proofs.lemmas.Option.{IfSome_then}
 use Rattle.speak_setup.specs.Setups.{names_of}
-use Rattle.thrax_link.specs.Exports.{exports_of}
-use Rattle.speak_core.specs.Accepted.{GrammarAsks}
-use Rattle.speak_core.specs.Loaded.{Finds}
-use Rattle.speak_core.proofs.Found.{named_finds, named_stops}
+use Rattle.speak_core.specs.Accepted.{NamesAsk, PlanOf}
+use Rattle.speak_core.specs.Loaded.{StopsAs, plan_of}
+use Rattle.speak_core.proofs.Found.{builds_names, stops_through, unplanned_only}
 use Rattle.speak_core.proofs.loading.find_named.Goals as goal
 
-pub returns-in-Ok-clause-finds : goal.returns-in-Ok-clause-finds
-returns-in-Ok-clause-finds g c =
-    subst (λ (names : List (List ℕ)). IfSome (g.H.Shelf.files c.args.shelf.now) (λ files. Finds (GrammarAsks files (names_of c.args.setup.now).tokenizer names) c.cascade_of.result)) c.deref.ensures.value
-    (named_finds (g.H.Shelf.files c.args.shelf.now) (names_of c.args.setup.now).tokenizer c.deref.result.now (exports_of c.in-Ok.grammar) c.cascade_of.result c.in-Ok.ensures.finds c.cascade_of.ensures.finds)
+pub returns-in_err-rules-clause-finds : goal.returns-in_err-rules-clause-finds
+returns-in_err-rules-clause-finds g c =
+    let names = names_of c.args.setup.now in
+    let refused : IfSome (g.H.Shelf.files c.args.shelf.now) (λ files. StopsAs (NamesAsk files c.args.mode names) c.in_err-rules.field-0.0) =
+    IfSome_then (g.H.Shelf.files c.args.shelf.now) c.in_err-rules.ensures.finds
+    (λ files h. stops_through (PlanOf files c.args.mode names) (NamesAsk files c.args.mode names) _ (unplanned_only files c.args.mode names) h) in
+    search rules
 
-pub returns-in-Err-clause-finds : goal.returns-in-Err-clause-finds
-returns-in-Err-clause-finds g c =
-    named_stops (g.H.Shelf.files c.args.shelf.now) (names_of c.args.setup.now).tokenizer (names_of c.args.setup.now).tokenizer_rules c.in-Err.stop c.in-Err.ensures.finds
+pub returns-clause-finds : goal.returns-clause-finds
+returns-clause-finds g c =
+    IfSome_then (g.H.Shelf.files c.args.shelf.now) c.in_ok-rules.ensures.finds
+    (λ files o. builds_names files c.args.mode (names_of c.args.setup.now) (plan_of c.args.mode c.in_ok-rules.rules) o c.build.result c.build.ensures.builds)

@@ -1,0 +1,20 @@
+use Rattle.std.proofs.Common.{List, map, ap}
+use Rattle.core_expressions.specs.Views.{expression_of}
+use Rattle.core_expressions.specs.declared.expressions.Expr.{Expr}
+use Rattle.speak_setup.specs.Setups.{names_of}
+use Rattle.normaliser.specs.Loads.{classifier_of, verbaliser_of}
+use Rattle.speak_core.specs.Accepted.{all_rules}
+use Rattle.speak_core.specs.Loaded.{plan_of}
+use Rattle.speak_core.specs.Plans.{rules_of}
+use Rattle.speak_core.proofs.Found.{built, tells_empty}
+use Rattle.speak_core.proofs.loading.build.Goals as goal
+
+pub returns-in-Ok-clause-builds : goal.returns-in-Ok-clause-builds
+returns-in-Ok-clause-builds c =
+    built c.args.mode (classifier_of c.in-Ok.normaliser) (verbaliser_of c.in-Ok.normaliser) _ _ _ _ (ap (λ (l : List Expr). map expression_of l) c.deref.ensures.value) (ap (λ (l : List Expr). map expression_of l) c.deref-2.ensures.value)
+    c.in-Ok.ensures.classifier c.in-Ok.ensures.verbaliser c.in-Ok.ensures.complete
+
+pub returns-in-Err-RewritesEmpty-clause-builds : goal.returns-in-Err-RewritesEmpty-clause-builds
+returns-in-Err-RewritesEmpty-clause-builds c =
+    tells_empty (all_rules (names_of c.args.setup.now)) (rules_of (plan_of c.args.mode c.args.rules.now)) c.in-Err-RewritesEmpty.rule c.rule_name-name.result.now c.rewrites_empty.result c.refused.result c.refused.ensures c.rewrites_empty.ensures
+    (rw (c.in-Err-RewritesEmpty.field-0-is, c.deref.ensures.value, c.deref-2.ensures.value) at c.in-Err-RewritesEmpty.ensures.refused) (rw c.in-Err-RewritesEmpty.field-0-is at c.rule_name-name.ensures)
