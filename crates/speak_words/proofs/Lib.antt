@@ -1,0 +1,4 @@
+pub mod Built
+pub mod Found
+pub mod Getters
+pub mod Jobs

@@ -1,0 +1,53 @@
+-- What words ask for.
+use Rattle.std.specs.Prelude.{ℕ, ◌<◌, ◌≤◌, ◌^◌, List, Option, Some, None, codes, if◌then◌else◌, unwrap_or}
+use Rattle.std.specs.Option.{option_map_or}
+use Rattle.std.specs.Str.{bytes_eq}
+use Rattle.std.specs.Str.Parse.{digits_value, without_leading_plus}
+use Rattle.clap.specs.Walk.{is_empty}
+use Rattle.clap.specs.Words.{Row, Text, fault_of, first_of, matches_of, one_of}
+use Rattle.speak_words.specs.Options.{command}
+use Rattle.speak_words.specs.declared.asked.Mode.{Mode}
+use Rattle.speak_words.specs.declared.asked.Mode.TheVariants.{Speak, Classify, Check, Sample}
+
+-- what a run does: a setup's name, or how many lines from which state
+pub data Job : Type 0 where
+  speak : Text → Job
+  classify : Text → Job
+  check : Text → Job
+  sample : ℕ → ℕ → Job
+
+abbrev pub job_of : Mode → Job
+job_of (Speak setup) = speak setup.now
+job_of (Classify setup) = classify setup.now
+job_of (Check setup) = check setup.now
+job_of (Sample count start) = sample count start
+
+-- the job of a mode: a setup belongs to each mode but sample, and to that one none
+abbrev pub job : Text → Option Text → ℕ → ℕ → Option Job
+job mode (Some setup) count start =
+    if bytes_eq mode (codes "speak") then Some (speak setup) else
+    if bytes_eq mode (codes "classify") then Some (classify setup) else
+    if bytes_eq mode (codes "check") then Some (check setup) else None
+job mode None count start =
+    if bytes_eq mode (codes "sample") then Some (sample count start) else None
+
+-- what a decimal says, with or without a plus
+abbrev pub number : Text → ℕ
+number text = digits_value 10 (without_leading_plus text)
+
+-- by what clap found for each option
+abbrev pub job_by : List Row → Option Job
+job_by rows = job
+    (unwrap_or (first_of (codes "mode") rows) (codes "speak"))
+    (first_of (codes "setup") rows)
+    (option_map_or number (one_of (codes "count") rows) 1000)
+    (option_map_or number (one_of (codes "start") rows) 1)
+
+-- the words, of which the first is the program's name: clap takes them, and they ask for this job
+unfoldable pub job_for : List Text → Option Job
+job_for words = if is_empty (fault_of command words) then job_by (matches_of command words) else None
+
+-- the bounds of what a mode needs
+abbrev pub InBounds : Mode → Type 0
+InBounds (Sample count start) = (1 ≤ count) × (count ≤ 100000) × (start < 2 ^ 31)
+InBounds _ = Unit {0}

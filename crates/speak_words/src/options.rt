@@ -1,0 +1,30 @@
+//! The command and its options.
+ghost use Rattle.std.specs.Prelude.{◌≡◌, ◌≤◌, false, IfOk};
+ghost use Rattle.std.specs.Option.{option_map_or};
+ghost use Rattle.clap.specs.Words.{app_of, found_of, one_of, rows_of, rule_of};
+ghost use Rattle.speak_words.specs.Asked.{number};
+ghost use Rattle.speak_words.specs.Numbers.{HasNumberIn};
+ghost use Rattle.speak_words.specs.Options.{command, number_option, text_option};
+
+use crate::numbers::{COUNT, START};
+use clap::{Arg, Command};
+use std::alloc::{AllocError, Global};
+
+/// The command.
+pub(crate) fn command<'a>(alloc: Global) -> Result<Command<'a>, AllocError>
+    ensures { IfOk result (λ c. app_of c ≡ command) }
+{
+    Command::new(alloc, "jackdawtray")
+        .arg(text_option(alloc, "setup"))?
+        .arg(text_option(alloc, "mode"))?
+        .arg(COUNT.option(alloc))?
+        .arg(START.option(alloc))
+}
+
+/// An option whose value is a text.
+fn text_option<'a>(alloc: Global, name: &'a str) -> Arg<'a>
+    ensures rule { rule_of result ≡ text_option name.entry.now }
+    ensures local { result.global ≡ false }
+{
+    Arg::new(alloc, name).long(name)
+}

@@ -1,0 +1,65 @@
+//! The words, read.
+ghost use Rattle.std.specs.Prelude.{◌≡◌, ◌≤◌, ◌<◌, ◌^◌, IfOk, IfSome, map, codes};
+ghost use Rattle.std.specs.Option.{option_map};
+ghost use Rattle.std.specs.String.{string_bytes};
+ghost use Rattle.clap.specs.Words.{found_of, rows_of};
+ghost use Rattle.speak_words.specs.Asked.{InBounds, job, job_by, job_for, job_of};
+ghost use Rattle.speak_words.specs.Numbers.{HasNumberIn};
+
+use crate::asked::{Asked, Mode};
+use crate::numbers::{COUNT, START};
+use crate::options::command;
+use clap::ArgMatches;
+use clap::error::ErrorKind;
+use std::alloc::{AllocError, Global};
+
+/// What the words ask for, of which the first is the program's name, or nothing where they are not the command's.
+pub fn read_words<'a>(alloc: Global, words: &'a [String]) -> Result<Option<Asked<'a>>, AllocError>
+    ensures asked { IfOk result (λ asked. option_map (λ a. job_of a.mode) asked ≡ job_for (map string_bytes words.entry.now)) }
+    ensures bounds { IfOk result (λ asked. IfSome asked (λ a. InBounds a.mode)) }
+{
+    let mut command = command(alloc)?;
+    match command.try_get_matches_from_mut(words) {
+        Ok(matches) => Ok(asked(&matches)),
+        Err(error) => match error.kind() {
+            ErrorKind::OutOfMemory => Err(AllocError),
+            _ => Ok(None),
+        },
+    }
+}
+
+/// What the words ask for, by what `clap` found.
+fn asked<'a>(matches: &ArgMatches<'a>) -> Option<Asked<'a>>
+    requires count { HasNumberIn 1 100000 (codes "count") (found_of matches.now) }
+    requires start { HasNumberIn 0 2147483647 (codes "start") (found_of matches.now) }
+    ensures job { option_map (λ a. job_of a.mode) result ≡ job_by (rows_of (found_of matches.now)) }
+    ensures bounds { IfSome result (λ a. InBounds a.mode) }
+{
+    let count = COUNT.value(matches);
+    let start = START.value(matches);
+    let name = matches.get_str("mode").unwrap_or("speak");
+    mode(name, matches.get_str("setup"), count, start).map(|mode| Asked { mode })
+}
+
+/// The mode of a name, with what belongs to it.
+fn mode<'a>(name: &str, setup: Option<&'a str>, count: u32, start: u32) -> Option<Mode<'a>>
+    requires least { 1 ≤ count }
+    requires most { count ≤ 100000 }
+    requires state { start < 2 ^ 31 }
+    ensures job { option_map job_of result ≡ job name.now (option_map (λ s. s.now) setup.entry) count start }
+    ensures bounds { IfSome result InBounds }
+{
+    let Some(setup) = setup else {
+        return if name == "sample" {
+            Some(Mode::Sample { count, start })
+        } else {
+            None
+        };
+    };
+    match name {
+        "speak" => Some(Mode::Speak { setup }),
+        "classify" => Some(Mode::Classify { setup }),
+        "check" => Some(Mode::Check { setup }),
+        _ => None,
+    }
+}
