@@ -1,20 +1,19 @@
 -- From the stop of a run to its status and to what is told of it.
 use Rattle.std.proofs.Common.{inl, inr, ◌≡◌, ◌⊎◌, ◌==◌, ℕ, ◌+◌, ◌≤◌, ◌^◌, List, [], None, Some, Ok, Err, Bool, true, false, IfSome, IfOk, IfErr, OnOk, IsSomeAnd, length, refl, sym, ap, ◌∙◌, subst, arith, if◌then◌else◌, String, Vec, Global}
-use Rattle.std.specs.Io.KnownBytes.{IsAtEnd}
 use Rattle.std.specs.Prelude.{Result, Option}
 use Rattle.std.specs.Result.{IsErrAnd}
 use Rattle.norm_base.specs.Bytes.{AppendsPrefix}
 use Rattle.norm_base.specs.Counts.{capped}
 use Rattle.norm_base.specs.Files.{Files}
 use Rattle.norm_base.proofs.Front.{prefix_none}
-use Rattle.text_lines.specs.Lines.{lines}
+use Rattle.speak_core.specs.Outputs.{lines_for, out_text, reads_input}
 use Rattle.speak_core.specs.Accepted.{Accepted, Asks, IsRefusal, OrText, Refused as Refuses}
-use Rattle.speak_core.specs.Commands.{command_in}
+use Rattle.speak_core.specs.Requests.{job_in}
 use Rattle.speak_core.specs.Inputs.{GaveMore, GaveTooMuch, IfGaveTooMuch}
 use Rattle.speak_core.specs.Loaded.{StopsAs}
 use Rattle.speak_core.specs.Owed.{Owed, SpeaksAll, SpeaksInput}
 use Rattle.speak_core.specs.Devices.{Observed, SinkSeen, SomeRose, NoneRose}
-use Rattle.speak_core.specs.Parts.{Speaks}
+use Rattle.speak_core.specs.Parts.{Writes}
 use Rattle.speak_core.specs.Plans.{Plan, saying_of}
 use Rattle.speak_core.specs.Stops.{status_of, text_of, last_text, AllCounts, IsAccepted, IsEnd, IsRefusalStop}
 use Rattle.speak_core.specs.Told.{TellsLast, TellsTwice, TellsShortOf, TellsStop, MayTell, no_text, wrong_words, refusal, outside, too_long}
@@ -130,12 +129,12 @@ is_refusal r n end (inl e) = subst (λ v. IsErrAnd v IsRefusalStop) (sym (stoppe
 is_refusal r n end (inr e) = let at = refused_at r n end e in subst (λ v. IsErrAnd v IsRefusalStop) (sym at.is) tt
 
 -- what was refused ends so, or by a fault of which this is known
-pub refused_end : (words : List (String Global)) (known : Option Files) (Rises : Type 0) (r : Result Bool Stop) (n : ℕ) → IsEnd n r → (r ≡ Err Words → command_in words ≡ None) → (IsAccepted r → IfSome known (λ files. (text : List ℕ) → Refuses words files text → ⊥))
+pub refused_end : (words : List (String Global)) (known : Option Files) (Rises : Type 0) (r : Result Bool Stop) (n : ℕ) → IsEnd n r → (r ≡ Err Words → job_in words ≡ None) → (IsAccepted r → IfSome known (λ files. (text : List ℕ) → Refuses words files text → ⊥))
     → (r ≡ Err Outside → IfSome known (λ files. (text : List ℕ) → Refuses words files text → Rises))
     → IfSome known (λ files. (text : List ℕ) → Refuses words files text → (n ≡ 3) ⊎ ((n ≡ 5) ⊎ ((n ≡ 4) × Rises)))
 refused_end words None Rises r n end wrong accepted rises = tt
 refused_end words (Some files) Rises (Ok b) n end wrong accepted rises = λ text h. absurd (accepted tt text h)
-refused_end words (Some files) Rises (Err Words) n end wrong accepted rises = λ text h. absurd (let no_name : Some h.command ≡ None = sym h.is_command ∙ wrong refl in cc)
+refused_end words (Some files) Rises (Err Words) n end wrong accepted rises = λ text h. absurd (let no_name : Some h.job ≡ None = sym h.is_job ∙ wrong refl in cc)
 refused_end words (Some files) Rises (Err (Refused t)) n end wrong accepted rises = λ text h. elim end [ inl e ↦ inl e | inr e ↦ inr (inl e) ]
 refused_end words (Some files) Rises (Err Outside) n end wrong accepted rises = λ text h. elim end [ inl e ↦ inr (inr (e, rises refl text h)) | inr e ↦ inr (inl e) ]
 refused_end words (Some files) Rises (Err Memory) n end wrong accepted rises = λ text h. elim end [ inl e ↦ inr (inl e) | inr e ↦ inr (inl e) ]
@@ -177,8 +176,13 @@ none_rose d err r counts f kept =
     let k : err.faults ≡ d.after.err.faults = subst (λ v. IfOk v (λ b. err.faults ≡ d.after.err.faults)) f.is kept in
     (c.0, c.1, c.2, k ∙ c.3)
 
-pub at_end : (now : Option (List ℕ)) (r : Result Bool Stop) → OnOk r (IsAtEnd now) → Finished r → IsAtEnd now
-at_end now r end f = subst (λ v. OnOk v (IsAtEnd now)) f.is end
+pub at_end : (P : Type 0) (r : Result Bool Stop) → OnOk r P → Finished r → P
+at_end P r end f = subst (λ v. OnOk v P) f.is end
+
+-- words that are no job, of which a run also finds that memory is wanting
+pub words_end : (r : Result Bool Stop) (n : ℕ) → IsEnd n r → (r ≡ Err Words) ⊎ (r ≡ Err Memory) → (n ≡ 2) ⊎ (n ≡ 5)
+words_end r n end (inl is) = end_at r Words n end is
+words_end r n end (inr is) = elim (end_at r Memory n end is) [ inl e ↦ inr e | inr e ↦ inr e ]
 
 pub speaks_at : (words : List (String Global)) (d : Observed) (err : SinkSeen) (r : Result Bool Stop) (b : Bool) → r ≡ Ok b → IfOk r (λ is_read. SpeaksAll words d is_read) → IfOk r (λ is_read. err.held ≡ d.after.err.held) → SpeaksAll words (then_err d err) b
 speaks_at words d err r b is done kept = go d.before.shelf.files d.before.source.left (subst (λ v. IfOk v (λ is_read. SpeaksAll words d is_read)) is done) where
@@ -191,25 +195,34 @@ speaks_at words d err r b is done kept = go d.before.shelf.files d.before.source
   go (Some files) (Some input) s = record {
     plan = s.plan;
     accepted = s.accepted;
-    speaks = subst (λ held. Speaks (saying_of s.plan) 1 (lines input) d.before.out.held d.after.out.held d.before.err.held held b) (sym same) s.speaks;
+    writes = subst (λ held. Writes (saying_of s.plan) (lines_for s.accepted.job input) (out_text s.accepted.job s.plan) d.before.out.held d.after.out.held d.before.err.held held b) (sym same) s.writes;
   }
 
 -- what is known of a run that stopped
 pub record Known (words : List (String Global)) (known : Option Files) (left : Option (List ℕ)) (d : Observed) (r : Result Bool Stop) : Type 0 where
-  pub wrong : r ≡ Err Words → command_in words ≡ None
+  pub wrong : r ≡ Err Words → job_in words ≡ None
   pub refusals : IfErr r (λ s. IfSome known (λ files. StopsAs (Asks words files) s))
   pub rises : r ≡ Err Outside → SomeRose d
   pub long : r ≡ Err TooLong → GaveTooMuch left d.after.source.left
+  pub kept : IfSome (job_in words) (λ job. reads_input job ≡ false → d.after.source.left ≡ left)
 
 not_long : (input : List ℕ) (now : Option (List ℕ)) → length input ≤ 2 ^ 28 → IsSomeAnd now (λ after. GaveMore input after) → ⊥
 not_long input None l more = more
 not_long input (Some after) l more = omega (arith, l, more)
 
-named : (words : List (String Global)) (files : Files) (plan : Plan) → Accepted words files plan → command_in words ≡ None → ⊥
-named words files e a none = let no_name : Some a.command ≡ None = sym a.is_command ∙ none in cc
+same_left : (input : List ℕ) → GaveMore input input → ⊥
+same_left input more = omega (arith, more)
+
+-- an input that isn't too long, or isn't read
+not_much : (input : List ℕ) (now : Option (List ℕ)) (reads : Bool) → (reads ≡ true → length input ≤ 2 ^ 28) → (reads ≡ false → now ≡ Some input) → IsSomeAnd now (λ after. GaveMore input after) → ⊥
+not_much input now true fits kept more = not_long input now (fits refl) more
+not_much input now false fits kept more = same_left input (subst (λ n. IsSomeAnd n (λ after. GaveMore input after)) (kept refl) more)
+
+named : (words : List (String Global)) (files : Files) (plan : Plan) → Accepted words files plan → job_in words ≡ None → ⊥
+named words files e a none = let no_name : Some a.job ≡ None = sym a.is_job ∙ none in cc
 
 pub complete_end : (words : List (String Global)) (known : Option Files) (left : Option (List ℕ)) (d : Observed) (r : Result Bool Stop) (n : ℕ) → IsEnd n r → Known words known left d r
-    → IfSome known (λ files. IfSome left (λ input. (plan : Plan) → Accepted words files plan → length input ≤ 2 ^ 28 → (SomeRose d → ⊥) → (n ≤ 1) ⊎ (n ≡ 5)))
+    → IfSome known (λ files. IfSome left (λ input. (plan : Plan) → (accepted : Accepted words files plan) → (reads_input accepted.job ≡ true → length input ≤ 2 ^ 28) → (SomeRose d → ⊥) → (n ≤ 1) ⊎ (n ≡ 5)))
 complete_end words None left d r n end k = tt
 complete_end words (Some files) None d r n end k = tt
 complete_end words (Some files) (Some input) d (Ok true) n end k = λ e a l calm. inl (omega (arith, end))
@@ -218,7 +231,7 @@ complete_end words (Some files) (Some input) d (Err Words) n end k = λ e a l ca
 complete_end words (Some files) (Some input) d (Err (Refused text)) n end k = λ e a l calm. absurd (let same : Ok e ≡ Err text.items = k.refusals.only (Ok e) a in cc)
 complete_end words (Some files) (Some input) d (Err Outside) n end k = λ e a l calm. absurd (calm (k.rises refl))
 complete_end words (Some files) (Some input) d (Err Memory) n end k = λ e a l calm. elim end [ inl e ↦ inr e | inr e ↦ inr e ]
-complete_end words (Some files) (Some input) d (Err TooLong) n end k = λ e a l calm. absurd (not_long input d.after.source.left l (k.long refl))
+complete_end words (Some files) (Some input) d (Err TooLong) n end k = λ e a l calm. absurd (not_much input d.after.source.left (reads_input a.job) l (subst (λ o. IfSome o (λ job. reads_input job ≡ false → d.after.source.left ≡ Some input)) a.is_job k.kept) (k.long refl))
 
 tells_last : (n : ℕ) (old mid new : SinkSeen) (faults : List ℕ) (t : Stop) → n ≡ status_of t → (status_of t == 5) ≡ false → TellsStop n mid new t → old.faults ≤ mid.faults → AppendsPrefix old.held mid.held faults → TellsLast old new faults (text_of t)
 tells_last n old mid new faults t is other told later lines = record {

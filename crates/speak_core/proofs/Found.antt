@@ -1,6 +1,7 @@
 -- From the files of the rules to what is asked for.
-use Rattle.std.proofs.Common.{◌≡◌, ℕ, List, [], ◌++◌, None, Some, Ok, Err, Vec, Global, Result, Option, inl, inr, IfSome, IfOk, IfErr, OnOk, slice_get, refl, sym, ap, ◌∙◌, subst, arith}
+use Rattle.std.proofs.Common.{◌≡◌, ◌<◌, ◌≤◌, ℕ, List, [], ◌∷◌, ◌++◌, None, Some, Ok, Err, Vec, Global, Result, Option, inl, inr, IfSome, IfOk, IfErr, OnOk, length, slice_get, refl, sym, ap, ◌∙◌, subst, arith}
 use Rattle.std.proofs.lemmas.Bool.{cases_lt}
+use Rattle.std.proofs.lemmas.Option.{IfSome_then}
 use Rattle.std.specs.Prelude.{MatchResult}
 use Rattle.std.specs.declared.alloc.AllocError.{AllocError}
 use Rattle.norm_base.specs.Files.{Files, file_of}
@@ -13,17 +14,17 @@ use Rattle.speak_setup.specs.declared.setup.SetupFault.{SetupFault}
 use Rattle.speak_setup.specs.declared.setup.SetupFault.TheVariants.{BadLine, Repeated, Missing, Memory as SetupMemory}
 use Rattle.thrax_meaning.specs.declared.why.Why.{Why}
 use Rattle.thrax_link.specs.Linking.{Linked, Outcome, refuses, exporting}
-use Rattle.speak_core.specs.Accepted.{ClassifierOf, CommandAsks, IsOnly, NamesAsk, OrText, PlanOf, RulesOf, VerbaliserOf, absent, all_rules, at_fault, has_both, linked, named, need_of, no_classifier, no_verbaliser, planned, read, rewrites_empty, unlinked, unplanned}
-use Rattle.speak_core.specs.Commands.{Command}
-use Rattle.speak_core.specs.Loaded.{Builds, Finds, FindsSpeaker, IsGrammarFile, IsSetupFile, SaySame, StopsAs, TellsFirstEmpty, TellsText, expressions_of}
+use Rattle.speak_core.specs.Accepted.{ClassifierOf, RequestAsks, IsOnly, NamesAsk, OrText, PlanOf, RulesOf, VerbaliserOf, absent, all_rules, at_fault, has_both, linked, named, need_of, no_classifier, no_verbaliser, planned, read, rewrites_empty, unlinked, unplanned}
+use Rattle.speak_core.specs.Requests.{Request}
+use Rattle.speak_core.specs.Loaded.{Builds, Checks, ChecksBy, Finds, FindsPlanned, IsGrammarFile, IsSetupFile, Planned, SaySame, SpeaksBy, StopsAs, TellsFirstEmpty, TellsText, expressions_of}
 use Rattle.speak_core.specs.Plans.{Plan, rules_of, says_in}
 use Rattle.speak_core.specs.Stops.{IsDeviceStop}
 use Rattle.speak_core.specs.Texts.{absent_text, empty_text, refusal_text, setup_text}
 use Rattle.speak_core.specs.declared.speakers.Speaker.{Speaker}
 use Rattle.speak_core.specs.declared.stop.Stop.{Stop}
 use Rattle.speak_core.specs.declared.stop.Stop.TheVariants as stop
-use Rattle.speak_core.specs.declared.words.Mode.{Mode}
-use Rattle.speak_core.specs.declared.words.Mode.TheVariants.{Classify, Speak}
+use Rattle.speak_core.specs.declared.requests.Mode.{Mode}
+use Rattle.speak_core.specs.declared.requests.Mode.TheVariants.{Classify, Speak}
 use Rattle.speak_core.proofs.Said.{says_alike}
 
 -- refusals
@@ -115,9 +116,9 @@ module _ (files : Files) (names : SetupNames) where
         once other (no_verbaliser fs t c v) = (let both : Err t ≡ Err text = p.only (Err t) v in let same : t ≡ text = cc in ap (λ x. Err x) same)
         once other (has_both fs vs c v) = absurd (let both : Ok vs ≡ Err text = p.only (Ok vs) v in cc)
 
-      pub both_only : (vs : List Expression) → IsOnly (VerbaliserOf files mode names) (Ok vs) → IsOnly (PlanOf files mode names) (Ok (record { mode = mode; classifier = es; verbaliser = vs }))
+      pub both_only : (vs : List Expression) → IsOnly (VerbaliserOf files mode names) (Ok vs) → IsOnly (PlanOf files mode names) (Ok (record { mode = mode; names = names; classifier = es; verbaliser = vs }))
       both_only vs p = record { found = has_both es vs o.found p.found; only = once } where
-        once : (other : OrText Plan) → PlanOf files mode names other → other ≡ Ok (record { mode = mode; classifier = es; verbaliser = vs })
+        once : (other : OrText Plan) → PlanOf files mode names other → other ≡ Ok (record { mode = mode; names = names; classifier = es; verbaliser = vs })
         once other (no_classifier t c) = absurd (let both : Err t ≡ Ok es = o.only (Err t) c in cc)
         once other (no_verbaliser fs t c v) = absurd (let both : Err t ≡ Ok vs = p.only (Err t) v in cc)
         once other (has_both fs ws c v) =
@@ -125,7 +126,7 @@ module _ (files : Files) (names : SetupNames) where
             let second : Ok ws ≡ Ok vs = p.only (Ok ws) v in
             let same : fs ≡ es = cc in
             let same_too : ws ≡ vs = cc in
-            ap (λ x. Ok (record { mode = mode; classifier = x; verbaliser = ws })) same ∙ ap (λ x. Ok (record { mode = mode; classifier = es; verbaliser = x })) same_too
+            ap (λ x. Ok (record { mode = mode; names = names; classifier = x; verbaliser = ws })) same ∙ ap (λ x. Ok (record { mode = mode; names = names; classifier = es; verbaliser = x })) same_too
 
 -- rewrites of the empty text
 
@@ -172,13 +173,22 @@ module _ (files : Files) (mode : Mode) (names : SetupNames) where
       once other (planned more p clear) = ap (λ x. Ok x) (same_plan more p)
 
     -- what building the rules of a plan comes to
-    pub builds_names : (r : Result Speaker Stop) → Builds names plan r → FindsSpeaker (NamesAsk files mode names) r
-    builds_names (Ok s) h = record { plan = plan; is_only = planned_only h.1; same = h.0 }
+    pub builds_names : (r : Result Speaker Stop) → Builds names plan r → FindsPlanned SpeaksBy (NamesAsk files mode names) r
+    builds_names (Ok s) h = record { plan = plan; is_only = planned_only h.1; fits = h.0 }
     builds_names (Err stop.Words) h = tt
     builds_names (Err (stop.Refused text)) h = subst (λ t. IsOnly (NamesAsk files mode names) (Err t)) (sym h.4) (empty_only h.0 h.1 h.2 h.3)
     builds_names (Err stop.Outside) h = tt
     builds_names (Err stop.Memory) h = tt
     builds_names (Err stop.TooLong) h = tt
+
+    -- and what telling their sizes comes to
+    pub checks_names : (r : Result (Vec ℕ Global) Stop) → Checks names plan r → FindsPlanned ChecksBy (NamesAsk files mode names) r
+    checks_names (Ok s) h = record { plan = plan; is_only = planned_only h.1; fits = h.0 }
+    checks_names (Err stop.Words) h = tt
+    checks_names (Err (stop.Refused text)) h = subst (λ t. IsOnly (NamesAsk files mode names) (Err t)) (sym h.4) (empty_only h.0 h.1 h.2 h.3)
+    checks_names (Err stop.Outside) h = tt
+    checks_names (Err stop.Memory) h = tt
+    checks_names (Err stop.TooLong) h = tt
 
 -- a normaliser of the rules of a plan
 pub built : (mode : Mode) (C V : Relation) (es fs cs vs : List Expression) → es ≡ cs → fs ≡ vs → Same C (Cascade Rel es) → Same V (Cascade Rel fs) → NoneRewritesEmpty (es ++ fs)
@@ -202,49 +212,49 @@ same_text files name a b e f = let both : Some a ≡ Some b = sym e ∙ f in cc
 not_there : (files : Files) (name a : List ℕ) → file_of files name ≡ Some a → file_of files name ≡ None → ⊥
 not_there files name a e f = (let both : Some a ≡ None = sym e ∙ f in cc)
 
-module _ (files : Files) (command : Command) where
-  pub names_only : (names : SetupNames) → IsSetupFile files command.setup (need_of command.mode) names → (a : OrText Plan) → IsOnly (NamesAsk files command.mode names) a → IsOnly (CommandAsks files command) a
+module _ (files : Files) (request : Request) where
+  pub names_only : (names : SetupNames) → IsSetupFile files request.setup (need_of request.mode) names → (a : OrText Plan) → IsOnly (NamesAsk files request.mode names) a → IsOnly (RequestAsks files request) a
   names_only names s a o = record { found = read s.text names a s.there s.reads o.found; only = once } where
-    once : (other : OrText Plan) → CommandAsks files command other → other ≡ a
-    once other (absent e) = absurd (not_there files command.setup s.text s.there e)
+    once : (other : OrText Plan) → RequestAsks files request other → other ≡ a
+    once other (absent e) = absurd (not_there files request.setup s.text s.there e)
     once other (at_fault text fault e r) =
-        let r' = subst (λ t. SetupText (need_of command.mode) t (Err fault)) (same_text files command.setup text s.text e s.there) r in
+        let r' = subst (λ t. SetupText (need_of request.mode) t (Err fault)) (same_text files request.setup text s.text e s.there) r in
         absurd (let both : Err fault ≡ Ok names = s.only (Err fault) r' in cc)
     once other (read text more b e r n) =
-        let r' = subst (λ t. SetupText (need_of command.mode) t (Ok more)) (same_text files command.setup text s.text e s.there) r in
+        let r' = subst (λ t. SetupText (need_of request.mode) t (Ok more)) (same_text files request.setup text s.text e s.there) r in
         let both : Ok more ≡ Ok names = s.only (Ok more) r' in
         let same : more ≡ names = cc in
-        o.only other (subst (λ x. NamesAsk files command.mode x other) same n)
+        o.only other (subst (λ x. NamesAsk files request.mode x other) same n)
 
-  pub names_found : (names : SetupNames) → IsSetupFile files command.setup (need_of command.mode) names → (r : Result Speaker Stop) → FindsSpeaker (NamesAsk files command.mode names) r → FindsSpeaker (CommandAsks files command) r
-  names_found names s (Ok found) h = record { plan = h.plan; is_only = names_only names s (Ok h.plan) h.is_only; same = h.same }
-  names_found names s (Err r) h = stops_through (NamesAsk files command.mode names) (CommandAsks files command) r (λ text. names_only names s (Err text)) h
+  pub names_found : (names : SetupNames) → IsSetupFile files request.setup (need_of request.mode) names → {B : Type 0} (Fits : Plan → B → Type 0) (r : Result B Stop) → FindsPlanned Fits (NamesAsk files request.mode names) r → FindsPlanned Fits (RequestAsks files request) r
+  names_found names s Fits (Ok found) h = record { plan = h.plan; is_only = names_only names s (Ok h.plan) h.is_only; fits = h.fits }
+  names_found names s Fits (Err r) h = stops_through (NamesAsk files request.mode names) (RequestAsks files request) r (λ text. names_only names s (Err text)) h
 
-  pub absent_only : file_of files command.setup ≡ None → IsOnly (CommandAsks files command) (Err absent_text)
+  pub absent_only : file_of files request.setup ≡ None → IsOnly (RequestAsks files request) (Err absent_text)
   absent_only none = record { found = absent none; only = once } where
-    once : (a : OrText Plan) → CommandAsks files command a → a ≡ Err absent_text
+    once : (a : OrText Plan) → RequestAsks files request a → a ≡ Err absent_text
     once a (absent e) = refl
-    once a (at_fault text fault e r) = absurd (not_there files command.setup text e none)
-    once a (read text other b e r n) = absurd (not_there files command.setup text e none)
+    once a (at_fault text fault e r) = absurd (not_there files request.setup text e none)
+    once a (read text other b e r n) = absurd (not_there files request.setup text e none)
 
-  fault_only : (text : List ℕ) (fault : SetupFault) → file_of files command.setup ≡ Some text → SetupText (need_of command.mode) text (Err fault) → ((other : Result SetupNames SetupFault) → SetupText (need_of command.mode) text other → other ≡ Err fault) → IsOnly (CommandAsks files command) (Err (setup_text fault))
+  fault_only : (text : List ℕ) (fault : SetupFault) → file_of files request.setup ≡ Some text → SetupText (need_of request.mode) text (Err fault) → ((other : Result SetupNames SetupFault) → SetupText (need_of request.mode) text other → other ≡ Err fault) → IsOnly (RequestAsks files request) (Err (setup_text fault))
   fault_only text fault is reads only = record { found = at_fault text fault is reads; only = once } where
-    once : (a : OrText Plan) → CommandAsks files command a → a ≡ Err (setup_text fault)
-    once a (absent e) = absurd (not_there files command.setup text is e)
+    once : (a : OrText Plan) → RequestAsks files request a → a ≡ Err (setup_text fault)
+    once a (absent e) = absurd (not_there files request.setup text is e)
     once a (at_fault t f e r) =
-        let both : Err f ≡ Err fault = only (Err f) (subst (λ x. SetupText (need_of command.mode) x (Err f)) (same_text files command.setup t text e is) r) in
+        let both : Err f ≡ Err fault = only (Err f) (subst (λ x. SetupText (need_of request.mode) x (Err f)) (same_text files request.setup t text e is) r) in
         let same : f ≡ fault = cc in
         ap (λ x. Err (setup_text x)) same
-    once a (read t other b e r n) = absurd (let both : Ok other ≡ Err fault = only (Ok other) (subst (λ x. SetupText (need_of command.mode) x (Ok other)) (same_text files command.setup t text e is) r) in cc)
+    once a (read t other b e r n) = absurd (let both : Ok other ≡ Err fault = only (Ok other) (subst (λ x. SetupText (need_of request.mode) x (Ok other)) (same_text files request.setup t text e is) r) in cc)
 
   pub fault_stops : (text : List ℕ) (fault : SetupFault) (t : Result (Vec ℕ Global) AllocError) (s : Stop) → OnOk t (fault ≡ SetupMemory → ⊥) → MatchResult t (λ found. s ≡ stop.Refused found) (λ none. s ≡ stop.Memory) → IfOk t (λ v. v.items ≡ setup_text fault)
-      → IfSome (outcome_of (Err fault)) (λ o. SetupText (need_of command.mode) text o) → IfSome (outcome_of (Err fault)) (λ o. (other : Result SetupNames SetupFault) → SetupText (need_of command.mode) text other → other ≡ o)
-      → file_of files command.setup ≡ Some text → StopsAs (CommandAsks files command) s
-  fault_stops text (BadLine n) t s some is items reads only there = refusal_stops (CommandAsks files command) (setup_text (BadLine n)) t s is items (fault_only text (BadLine n) there reads only)
-  fault_stops text (Repeated n) t s some is items reads only there = refusal_stops (CommandAsks files command) (setup_text (Repeated n)) t s is items (fault_only text (Repeated n) there reads only)
-  fault_stops text (Missing key) t s some is items reads only there = refusal_stops (CommandAsks files command) (setup_text (Missing key)) t s is items (fault_only text (Missing key) there reads only)
+      → IfSome (outcome_of (Err fault)) (λ o. SetupText (need_of request.mode) text o) → IfSome (outcome_of (Err fault)) (λ o. (other : Result SetupNames SetupFault) → SetupText (need_of request.mode) text other → other ≡ o)
+      → file_of files request.setup ≡ Some text → StopsAs (RequestAsks files request) s
+  fault_stops text (BadLine n) t s some is items reads only there = refusal_stops (RequestAsks files request) (setup_text (BadLine n)) t s is items (fault_only text (BadLine n) there reads only)
+  fault_stops text (Repeated n) t s some is items reads only there = refusal_stops (RequestAsks files request) (setup_text (Repeated n)) t s is items (fault_only text (Repeated n) there reads only)
+  fault_stops text (Missing key) t s some is items reads only there = refusal_stops (RequestAsks files request) (setup_text (Missing key)) t s is items (fault_only text (Missing key) there reads only)
   fault_stops text SetupMemory (Ok v) s some is items reads only there = absurd (some refl)
-  fault_stops text SetupMemory (Err e) s some is items reads only there = subst (StopsAs (CommandAsks files command)) (sym is) tt
+  fault_stops text SetupMemory (Err e) s some is items reads only there = subst (StopsAs (RequestAsks files request)) (sym is) tt
 
 -- what is known of files that are told
 

@@ -3,5 +3,7 @@ pub mod Tellings
 pub mod SoFar
 pub mod Named
 pub mod Found
+pub mod RuleLines
+pub mod Doing
 pub mod Runs
 pub mod Endings

@@ -1,118 +1,163 @@
 -- From the plan that was found to what a run owes.
-use Rattle.std.proofs.Common.{◌≡◌, ℕ, List, None, Some, Ok, Err, Bool, Result, IfSome, IfErr, sym, ◌∙◌, subst, String, Global}
+use Rattle.std.proofs.Common.{◌≡◌, ℕ, List, None, Some, Ok, Err, Bool, true, Result, inr, IfSome, IfOk, IfErr, OnOk, ap, sym, ◌∙◌, subst, String, Global}
 use Rattle.std.specs.declared.option.Option.{Option}
+use Rattle.std.specs.Io.KnownBytes.{Appends, IsAtEnd}
+use Rattle.std.specs.Option.{option_map}
 use Rattle.std.specs.Result.{IsErrAnd}
+use Rattle.speak_words.specs.Asked.{Job}
 use Rattle.norm_base.specs.Bytes.{AppendsPrefix}
 use Rattle.norm_base.specs.Files.{Files}
 use Rattle.norm_base.proofs.Front.{prefix_none}
 use Rattle.normaliser.specs.Lines.{Answer}
-use Rattle.speak_core.specs.Accepted.{Accepted, Asks, CommandAsks, IsOnly, OrText, Refused}
-use Rattle.speak_core.specs.Answers.{AllSaid, written, told}
-use Rattle.speak_core.specs.Commands.{Command, command_in}
-use Rattle.text_lines.specs.Lines.{lines}
+use Rattle.speak_core.specs.Accepted.{Accepted, Asks, IsOnly, JobAsks, OrText, Refused}
+use Rattle.speak_core.specs.Answers.{AllSaid, told}
+use Rattle.speak_core.specs.Requests.{job_in}
 use Rattle.speak_core.specs.Devices.{Observed}
-use Rattle.speak_core.specs.Loaded.{Loaded, StopsAs}
-use Rattle.speak_core.specs.Owed.{Owed, nothing, lines_of, SpeaksInput}
-use Rattle.speak_core.specs.Parts.{Speaks, says_of}
+use Rattle.speak_core.specs.Loaded.{Planned, StopsAs}
+use Rattle.speak_core.specs.Owed.{Owed, SpeaksInput, nothing, of_job}
+use Rattle.speak_core.specs.Outputs.{lines_for, out_text, reads_input}
+use Rattle.speak_core.specs.Parts.{Writes}
 use Rattle.speak_core.specs.Plans.{Plan, saying_of}
-use Rattle.speak_core.specs.Stops.{IsDeviceStop, IsRefusalStop}
-use Rattle.speak_core.specs.declared.speakers.Speaker.{Speaker}
+use Rattle.speak_core.specs.Stops.{AllCounts, IsReadingStop, IsRefusalStop}
+use Rattle.speak_core.specs.Works.{Does, WorkCounts, work_lines, work_says, work_text}
 use Rattle.speak_core.specs.declared.stop.Stop.{Stop}
 use Rattle.speak_core.specs.declared.stop.Stop.TheVariants as stop
-use Rattle.speak_core.proofs.Found.{device_stops, stops_through}
-use Rattle.speak_core.proofs.Said.{all_said_to}
+use Rattle.speak_core.specs.declared.works.Work.{Work}
+use Rattle.speak_core.proofs.Found.{stops_through}
 
-module _ (words : List (String Global)) (command : Command) (is_command : Some command ≡ command_in words) where
-  same_command : (files : Files) (asked : OrText Plan) → Asks words files asked → CommandAsks files command asked
-  same_command files asked s =
-      let both : Some s.command ≡ Some command = sym s.is_command ∙ sym is_command in
-      let same : s.command ≡ command = cc in
-      subst (λ c. CommandAsks files c asked) same s.asks
+module _ (words : List (String Global)) (job : Job) (is_job : Some job ≡ job_in words) where
+  same_job : (files : Files) (asked : OrText Plan) (s : Asks words files asked) → s.job ≡ job
+  same_job files asked s = let both : Some s.job ≡ Some job = sym s.is_job ∙ sym is_job in cc
 
-  asks_only : (files : Files) (asked : OrText Plan) → IsOnly (CommandAsks files command) asked → IsOnly (Asks words files) asked
-  asks_only files asked o = record { found = record { command = command; is_command = sym is_command; asks = o.found }; only = λ other a. o.only other (same_command files other a) }
+  asks_only : (files : Files) (asked : OrText Plan) → IsOnly (JobAsks files job) asked → IsOnly (Asks words files) asked
+  asks_only files asked o = record { found = record { job = job; is_job = sym is_job; asks = o.found }; only = λ other a. o.only other (subst (λ j. JobAsks files j other) (same_job files other a) a.asks) }
 
-  -- what was refused of the command
-  pub command_stops : (known : Option Files) (s : Stop) → IfSome known (λ files. StopsAs (CommandAsks files command) s) → IfSome known (λ files. StopsAs (Asks words files) s)
-  command_stops None s h = tt
-  command_stops (Some files) s h = stops_through (CommandAsks files command) (Asks words files) s (λ text. asks_only files (Err text)) h
+  -- what was refused of the job
+  pub job_stops : (known : Option Files) (s : Stop) → IfSome known (λ files. StopsAs (JobAsks files job) s) → IfSome known (λ files. StopsAs (Asks words files) s)
+  job_stops None s h = tt
+  job_stops (Some files) s h = stops_through (JobAsks files job) (Asks words files) s (λ text. asks_only files (Err text)) h
 
-  module _ (s : Speaker) where
-    plan_accepted : (files : Files) (l : Loaded (CommandAsks files command) s) → Accepted words files l.plan
-    plan_accepted files l = (asks_only files (Ok l.plan) l.is_only).found
+  -- what is so of the job is so of that of the words
+  pub of_words : (P : Job → Type 0) → P job → IfSome (job_in words) P
+  of_words P h = subst (λ o. IfSome o P) is_job h
 
-    same_plan : (files : Files) (l : Loaded (CommandAsks files command) s) (plan : Plan) → Accepted words files plan → plan ≡ l.plan
-    same_plan files l plan a = (let both : Ok plan ≡ Ok l.plan = (asks_only files (Ok l.plan) l.is_only).only (Ok plan) a in cc)
+  module _ (w : Work) where
+    module _ (files : Files) (l : Planned (Does job) (JobAsks files job) w) where
+      same_plan : (plan : Plan) → Accepted words files plan → plan ≡ l.plan
+      same_plan plan a = (let both : Ok plan ≡ Ok l.plan = (asks_only files (Ok l.plan) l.is_only).only (Ok plan) a in cc)
 
-    -- what the lines say by a plan that is asked for they say by the speaker
-    by_speaker : (files : Files) (input bytes : List ℕ) (plan : Plan) (answers : List Answer) (l : Loaded (CommandAsks files command) s) → Accepted words files plan → bytes ≡ input → AllSaid (saying_of plan) (lines input) answers → AllSaid (says_of s) (lines bytes) answers
-    by_speaker files input bytes plan answers l a is said =
-        let same = subst (λ p. AllSaid (saying_of p) (lines input) answers) (same_plan files l plan a) said in
-        subst (λ b. AllSaid (says_of s) (lines b) answers) (sym is) (all_said_to (saying_of l.plan) (says_of s) (λ line answer. (l.same line answer).1) (lines input) answers same)
+      -- what the lines say by a plan that is asked for they say by the work
+      by_its_work : (input : List ℕ) (plan : Plan) (answers : List Answer) (a : Accepted words files plan) → AllSaid (saying_of plan) (lines_for a.job input) answers → AllSaid (work_says w) (work_lines w input) answers
+      by_its_work input plan answers a said =
+          l.fits.by_work input answers (subst (λ p. AllSaid (saying_of p) (lines_for job input) answers) (same_plan plan a) (subst (λ j. AllSaid (saying_of plan) (lines_for j input) answers) (same_job files (Ok plan) a) said))
 
-    module _ (bytes : List ℕ) (old new : Option (List ℕ)) where
-      owed_words : (files : Files) (input output faults : List ℕ) → Loaded (CommandAsks files command) s → bytes ≡ input → ((answers : List Answer) → AllSaid (says_of s) (lines bytes) answers → AppendsPrefix old new (written answers))
-          → Owed words files input output faults → AppendsPrefix old new output
-      owed_words files input output faults l is front (nothing none) = absurd (none l.plan (plan_accepted files l))
-      owed_words files input output faults l is front (lines_of plan answers a said) = front answers (by_speaker files input bytes plan answers l a is said)
+      same_text : (plan : Plan) (answers : List Answer) (a : Accepted words files plan) → work_text w answers ≡ out_text a.job plan answers
+      same_text plan answers a = l.fits.text answers ∙ (ap (λ p. out_text job p answers) (sym (same_plan plan a)) ∙ ap (λ j. out_text j plan answers) (sym (same_job files (Ok plan) a)))
 
-      owed_faults : (files : Files) (input output faults : List ℕ) → Loaded (CommandAsks files command) s → bytes ≡ input → ((answers : List Answer) → AllSaid (says_of s) (lines bytes) answers → AppendsPrefix old new (told 1 answers))
-          → Owed words files input output faults → AppendsPrefix old new faults
-      owed_faults files input output faults l is front (nothing none) = absurd (none l.plan (plan_accepted files l))
-      owed_faults files input output faults l is front (lines_of plan answers a said) = front answers (by_speaker files input bytes plan answers l a is said)
+      accepted : Accepted words files l.plan
+      accepted = (asks_only files (Ok l.plan) l.is_only).found
 
-      pub run_words : (known : Option Files) (left : Option (List ℕ)) → IfSome known (λ files. Loaded (CommandAsks files command) s) → IfSome left (λ input. bytes ≡ input)
-          → ((answers : List Answer) → AllSaid (says_of s) (lines bytes) answers → AppendsPrefix old new (written answers))
-          → IfSome known (λ files. IfSome left (λ input. (output faults : List ℕ) → Owed words files input output faults → AppendsPrefix old new output))
-      run_words None left l is front = tt
-      run_words (Some files) None l is front = tt
-      run_words (Some files) (Some input) l is front = λ output faults. owed_words files input output faults l is front
+      module _ (old new : Option (List ℕ)) (input : List ℕ) where
+        owed_output : (output faults : List ℕ) → ((answers : List Answer) → AllSaid (work_says w) (work_lines w input) answers → AppendsPrefix old new (work_text w answers)) → Owed words files input output faults → AppendsPrefix old new output
+        owed_output output faults front (nothing none) = absurd (none l.plan accepted)
+        owed_output output faults front (of_job plan answers a said) = subst (AppendsPrefix old new) (same_text plan answers a) (front answers (by_its_work input plan answers a said))
 
-      pub run_faults : (known : Option Files) (left : Option (List ℕ)) → IfSome known (λ files. Loaded (CommandAsks files command) s) → IfSome left (λ input. bytes ≡ input)
-          → ((answers : List Answer) → AllSaid (says_of s) (lines bytes) answers → AppendsPrefix old new (told 1 answers))
-          → IfSome known (λ files. IfSome left (λ input. (output faults : List ℕ) → Owed words files input output faults → AppendsPrefix old new faults))
-      run_faults None left l is front = tt
-      run_faults (Some files) None l is front = tt
-      run_faults (Some files) (Some input) l is front = λ output faults. owed_faults files input output faults l is front
+        owed_faults : (output faults : List ℕ) → ((answers : List Answer) → AllSaid (work_says w) (work_lines w input) answers → AppendsPrefix old new (told 1 answers)) → Owed words files input output faults → AppendsPrefix old new faults
+        owed_faults output faults front (nothing none) = absurd (none l.plan accepted)
+        owed_faults output faults front (of_job plan answers a said) = front answers (by_its_work input plan answers a said)
 
-    pub run_speaks : (known : Option Files) (left : Option (List ℕ)) (bytes : List ℕ) (d : Observed) (is_read : Bool) → IfSome known (λ files. Loaded (CommandAsks files command) s) → IfSome left (λ input. bytes ≡ input)
-        → Speaks (says_of s) 1 (lines bytes) d.before.out.held d.after.out.held d.before.err.held d.after.err.held is_read
+    pub run_output : (old new : Option (List ℕ)) (known : Option Files) (left : Option (List ℕ)) → IfSome known (λ files. Planned (Does job) (JobAsks files job) w)
+        → IfSome left (λ input. (answers : List Answer) → AllSaid (work_says w) (work_lines w input) answers → AppendsPrefix old new (work_text w answers))
+        → IfSome known (λ files. IfSome left (λ input. (output faults : List ℕ) → Owed words files input output faults → AppendsPrefix old new output))
+    run_output old new None left l front = tt
+    run_output old new (Some files) None l front = tt
+    run_output old new (Some files) (Some input) l front = λ output faults. owed_output files l old new input output faults front
+
+    pub run_faults : (old new : Option (List ℕ)) (known : Option Files) (left : Option (List ℕ)) → IfSome known (λ files. Planned (Does job) (JobAsks files job) w)
+        → IfSome left (λ input. (answers : List Answer) → AllSaid (work_says w) (work_lines w input) answers → AppendsPrefix old new (told 1 answers))
+        → IfSome known (λ files. IfSome left (λ input. (output faults : List ℕ) → Owed words files input output faults → AppendsPrefix old new faults))
+    run_faults old new None left l front = tt
+    run_faults old new (Some files) None l front = tt
+    run_faults old new (Some files) (Some input) l front = λ output faults. owed_faults files l old new input output faults front
+
+    all_spoken : (known : Option Files) (left : Option (List ℕ)) (d : Observed) (is_read : Bool) → IfSome known (λ files. Planned (Does job) (JobAsks files job) w)
+        → IfSome left (λ input. Writes (work_says w) (work_lines w input) (work_text w) d.before.out.held d.after.out.held d.before.err.held d.after.err.held is_read)
         → IfSome known (λ files. IfSome left (λ input. SpeaksInput words d is_read files input))
-    run_speaks None left bytes d is_read l is h = tt
-    run_speaks (Some files) None bytes d is_read l is h = tt
-    run_speaks (Some files) (Some input) bytes d is_read l is h = record {
+    all_spoken None left d is_read l h = tt
+    all_spoken (Some files) None d is_read l h = tt
+    all_spoken (Some files) (Some input) d is_read l h = record {
       plan = l.plan;
-      accepted = plan_accepted files l;
-      speaks = record {
+      accepted = record { job = job; is_job = sym is_job; asks = l.is_only.found };
+      writes = record {
         answers = h.answers;
-        said = subst (λ b. AllSaid (saying_of l.plan) (lines b) h.answers) is (all_said_to (says_of s) (saying_of l.plan) (λ line answer. (l.same line answer).0) (lines bytes) h.answers h.said);
-        words = h.words;
+        said = l.fits.by_plan input h.answers h.said;
+        output = subst (Appends d.before.out.held d.after.out.held) (l.fits.text h.answers) h.output;
         faults = h.faults;
         read = h.read;
       };
     }
 
+    written_of : (left : Option (List ℕ)) (P : List ℕ → Bool → Type 0) (is_read : Bool) → IfSome left (λ input. IfOk {E = Stop} (Ok is_read) (P input)) → IfSome left (λ input. P input is_read)
+    written_of None P is_read h = tt
+    written_of (Some input) P is_read h = h
+
+    pub run_speaks : (known : Option Files) (left : Option (List ℕ)) (d : Observed) (r : Result Bool Stop) → IfSome known (λ files. Planned (Does job) (JobAsks files job) w)
+        → IfSome left (λ input. IfOk r (Writes (work_says w) (work_lines w input) (work_text w) d.before.out.held d.after.out.held d.before.err.held d.after.err.held))
+        → IfOk r (λ is_read. IfSome known (λ files. IfSome left (λ input. SpeaksInput words d is_read files input)))
+    run_speaks known left d (Ok is_read) l h = all_spoken known left d is_read l (written_of left (λ input. Writes (work_says w) (work_lines w input) (work_text w) d.before.out.held d.after.out.held d.before.err.held d.after.err.held) is_read h)
+    run_speaks known left d (Err s) l h = tt
+
     -- words and files that are accepted aren't refused
-    pub run_accepts : (known : Option Files) → IfSome known (λ files. Loaded (CommandAsks files command) s) → IfSome known (λ files. (text : List ℕ) → Refused words files text → ⊥)
+    pub run_accepts : (known : Option Files) → IfSome known (λ files. Planned (Does job) (JobAsks files job) w) → IfSome known (λ files. (text : List ℕ) → Refused words files text → ⊥)
     run_accepts None l = tt
     run_accepts (Some files) l = λ text a. (let both : Err text ≡ Ok l.plan = (asks_only files (Ok l.plan) l.is_only).only (Err text) a in cc)
 
-ending_stops : (words : List (String Global)) (known : Option Files) (s : Stop) → IsDeviceStop s → IfSome known (λ files. StopsAs (Asks words files) s)
-ending_stops words None s h = tt
-ending_stops words (Some files) s h = device_stops (Asks words files) s h
+reading_stop : {A : Type 0} (P : OrText A → Type 0) (s : Stop) → IsReadingStop s → StopsAs P s
+reading_stop P stop.Words h = absurd h
+reading_stop P (stop.Refused text) h = absurd h
+reading_stop P stop.Outside h = tt
+reading_stop P stop.Memory h = tt
+reading_stop P stop.TooLong h = tt
 
-pub lines_stops : {T : Type 0} (words : List (String Global)) (known : Option Files) (r : Result T Stop) → IfErr r IsDeviceStop → IfErr r (λ s. IfSome known (λ files. StopsAs (Asks words files) s))
+ending_stops : (words : List (String Global)) (known : Option Files) (s : Stop) → IsReadingStop s → IfSome known (λ files. StopsAs (Asks words files) s)
+ending_stops words None s h = tt
+ending_stops words (Some files) s h = reading_stop (Asks words files) s h
+
+pub lines_stops : {T : Type 0} (words : List (String Global)) (known : Option Files) (r : Result T Stop) → IfErr r IsReadingStop → IfErr r (λ s. IfSome known (λ files. StopsAs (Asks words files) s))
 lines_stops words known (Ok x) h = tt
 lines_stops words known (Err s) h = ending_stops words known s h
 
 -- the lines end in no refusal
-pub lines_refuse : {T : Type 0} (r : Result T Stop) → IfErr r IsDeviceStop → IsErrAnd r IsRefusalStop → ⊥
+pub lines_refuse : {T : Type 0} (r : Result T Stop) → IfErr r IsReadingStop → IsErrAnd r IsRefusalStop → ⊥
 lines_refuse (Ok x) h k = k
 lines_refuse (Err stop.Words) h k = h
 lines_refuse (Err (stop.Refused text)) h k = h
 lines_refuse (Err stop.Outside) h k = k
 lines_refuse (Err stop.Memory) h k = k
-lines_refuse (Err stop.TooLong) h k = h
+lines_refuse (Err stop.TooLong) h k = k
+
+-- the words aren't found wrong where there is a job
+pub no_wrong_words : {T : Type 0} (P : Type 0) (r : Result T Stop) → IfErr r IsReadingStop → r ≡ Err stop.Words → P
+no_wrong_words P r h is = absurd (subst (λ v. IfErr v IsReadingStop) is h)
+
+-- the counts of all four, where those of the shelf stay
+pub run_counts : {T : Type 0} (d : Observed) (r : Result T Stop) → d.after.shelf.faults ≡ d.before.shelf.faults
+    → WorkCounts d.before.source.faults d.after.source.faults d.before.out.faults d.after.out.faults d.before.err.faults d.after.err.faults r → AllCounts d r
+run_counts d (Ok x) shelf h = (shelf, h.0, h.1, h.2)
+run_counts d (Err stop.Words) shelf h = (shelf, h.0, h.1, h.2)
+run_counts d (Err (stop.Refused text)) shelf h = (shelf, h.0, h.1, h.2)
+run_counts d (Err stop.Outside) shelf h = inr h
+run_counts d (Err stop.Memory) shelf h = tt
+run_counts d (Err stop.TooLong) shelf h = (shelf, h.0, h.1, h.2)
+
+-- the input is at its end where the job reads it
+pub run_ends : {T : Type 0} (words : List (String Global)) (job : Job) (is_job : Some job ≡ job_in words) (reads : Bool) (now : Option (List ℕ)) (r : Result T Stop) → reads ≡ reads_input job → (reads ≡ true → OnOk r (IsAtEnd now)) → OnOk r (IfSome (job_in words) (λ j. reads_input j ≡ true → IsAtEnd now))
+run_ends words job is_job reads now (Ok x) same end = of_words words job is_job (λ j. reads_input j ≡ true → IsAtEnd now) (λ h. end (same ∙ h))
+run_ends words job is_job reads now (Err s) same end = tt
+
+-- the job that was read
+pub found_job : {A : Type 0} (f : A → Job) (o : Option A) (a : A) {x : Option Job} → o ≡ Some a → option_map f o ≡ x → Some (f a) ≡ x
+found_job f o a is e = sym (ap (option_map f) is) ∙ e
 
 -- nothing was written
 pub owes_nothing : (words : List (String Global)) (known : Option Files) (left old : Option (List ℕ)) → IfSome known (λ files. IfSome left (λ input. (output faults : List ℕ) → Owed words files input output faults → AppendsPrefix old old output))

@@ -1,11 +1,11 @@
 -- What lines say: each says one thing, and more lines say more.
-use Rattle.std.proofs.Common.{◌≡◌, ℕ, ◌+◌, suc, List, [], ◌∷◌, ◌++◌, Bool, true, ◌&&◌, length, refl, sym, ap, ◌∙◌, subst, append_assoc, append-nil, arith}
+use Rattle.std.proofs.Common.{◌≡◌, ℕ, ◌+◌, suc, List, [], ◌∷◌, ◌++◌, Bool, true, ◌&&◌, length, refl, sym, ap, ◌∙◌, subst, append_assoc, append-nil, length-append, arith}
 use Rattle.std.proofs.KnownBytes.{Appends-nil, Appends-trans}
 use Rattle.std.proofs.lemmas.List.Folds.{list_all-append}
 use Rattle.std.specs.Io.KnownBytes.{Appends}
 use Rattle.std.specs.declared.option.Option.{Option}
 use Rattle.norm_base.specs.Bytes.{AppendsPrefix}
-use Rattle.norm_base.proofs.Front.{prefix_first, prefix_then}
+use Rattle.norm_base.proofs.Front.{prefix_all, prefix_first, prefix_then}
 use Rattle.normaliser.specs.Lines.{Answer, Saying}
 use Rattle.normaliser.proofs.Alike.{classified_alike, words_alike}
 use Rattle.normaliser.proofs.Once.{classified_once, words_once}
@@ -15,8 +15,8 @@ use Rattle.speak_core.specs.Answers.{AllSaid, all_read, fault_text, is_read, tol
 use Rattle.speak_core.specs.Loaded.{SaySame, SaysOnce}
 use Rattle.speak_core.specs.Parts.{Speaks}
 use Rattle.speak_core.specs.Plans.{says_in}
-use Rattle.speak_core.specs.declared.words.Mode.{Mode}
-use Rattle.speak_core.specs.declared.words.Mode.TheVariants.{Classify, Speak}
+use Rattle.speak_core.specs.declared.requests.Mode.{Mode}
+use Rattle.speak_core.specs.declared.requests.Mode.TheVariants.{Classify, Speak}
 
 -- a line says one thing
 pub says_once : (mode : Mode) (C V : Relation) → SaysOnce (says_in mode C V)

@@ -11,11 +11,12 @@ use Rattle.speak_setup.specs.declared.setup.SetupFault.{SetupFault}
 use Rattle.thrax_meaning.specs.declared.why.Why.{Why}
 use Rattle.thrax_link.specs.Exports.{expression_named}
 use Rattle.thrax_link.specs.Linking.{Linked, refuses, exporting}
-use Rattle.speak_core.specs.Commands.{Command, command_in}
+use Rattle.speak_words.specs.Asked.{Job}
+use Rattle.speak_core.specs.Requests.{Request, files_for, job_in, request_for}
 use Rattle.speak_core.specs.Plans.{Plan, rules_of}
 use Rattle.speak_core.specs.Texts.{absent_text, setup_text, no_rule_text, marked_text, empty_text, refusal_text}
-use Rattle.speak_core.specs.declared.words.Mode.{Mode}
-use Rattle.speak_core.specs.declared.words.Mode.TheVariants.{Classify, Speak}
+use Rattle.speak_core.specs.declared.requests.Mode.{Mode}
+use Rattle.speak_core.specs.declared.requests.Mode.TheVariants.{Classify, Speak}
 
 -- something that is asked for, or a refusal with its text
 abbrev pub OrText : Type 0 → Type 0
@@ -56,7 +57,7 @@ pub data PlanOf (files : Files) (mode : Mode) (names : SetupNames) : OrText Plan
   no_classifier : (text : List ℕ) → ClassifierOf files names (Err text) → PlanOf files mode names (Err text)
   no_verbaliser : (classifier : List Expression) (text : List ℕ) → ClassifierOf files names (Ok classifier) → VerbaliserOf files mode names (Err text) → PlanOf files mode names (Err text)
   has_both : (classifier verbaliser : List Expression) → ClassifierOf files names (Ok classifier) → VerbaliserOf files mode names (Ok verbaliser)
-      → PlanOf files mode names (Ok (record { mode = mode; classifier = classifier; verbaliser = verbaliser }))
+      → PlanOf files mode names (Ok (record { mode = mode; names = names; classifier = classifier; verbaliser = verbaliser }))
 
 -- the names of all rules, in the order in which they are built
 abbrev pub all_rules : SetupNames → List (List ℕ)
@@ -73,19 +74,23 @@ abbrev pub need_of : Mode → Need
 need_of Classify = Classifier
 need_of Speak = Both
 
--- what a command asks for
-pub data CommandAsks (files : Files) (command : Command) : OrText Plan → Type 0 where
-  absent : file_of files command.setup ≡ None → CommandAsks files command (Err absent_text)
-  at_fault : (text : List ℕ) (fault : SetupFault) → file_of files command.setup ≡ Some text → SetupText (need_of command.mode) text (Err fault) → CommandAsks files command (Err (setup_text fault))
-  read : (text : List ℕ) (names : SetupNames) (asked : OrText Plan) → file_of files command.setup ≡ Some text → SetupText (need_of command.mode) text (Ok names) → NamesAsk files command.mode names asked → CommandAsks files command asked
+-- what a request asks for
+pub data RequestAsks (files : Files) (request : Request) : OrText Plan → Type 0 where
+  absent : file_of files request.setup ≡ None → RequestAsks files request (Err absent_text)
+  at_fault : (text : List ℕ) (fault : SetupFault) → file_of files request.setup ≡ Some text → SetupText (need_of request.mode) text (Err fault) → RequestAsks files request (Err (setup_text fault))
+  read : (text : List ℕ) (names : SetupNames) (asked : OrText Plan) → file_of files request.setup ≡ Some text → SetupText (need_of request.mode) text (Ok names) → NamesAsk files request.mode names asked → RequestAsks files request asked
 
--- the words are a command, and with these files they ask for this
+-- what a job asks for of its files
+abbrev pub JobAsks : Files → Job → OrText Plan → Type 0
+JobAsks files job asked = RequestAsks (files_for job files) (request_for job) asked
+
+-- the words are a job, and with these files it asks for this
 pub record Asks (words : List (String Global)) (files : Files) (asked : OrText Plan) : Type 0 where
-  pub command : Command
-  pub is_command : command_in words ≡ Some command
-  pub asks : CommandAsks files command asked
+  pub job : Job
+  pub is_job : job_in words ≡ Some job
+  pub asks : JobAsks files job asked
 
--- the words and the files ask for the lines to be spoken by this plan
+-- the words and the files ask for this plan
 abbrev pub Accepted : List (String Global) → Files → Plan → Type 0
 Accepted words files plan = Asks words files (Ok plan)
 
@@ -102,6 +107,6 @@ pub record IsOnly {A : Type 0} (Asks : A → Type 0) (asked : A) : Type 0 where
   pub found : Asks asked
   pub only : (other : A) → Asks other → other ≡ asked
 
--- the words are a command, and what they name is refused with this text
+-- the words are a job, and what it names is refused with this text
 abbrev pub IsRefusal : List (String Global) → Files → List ℕ → Type 0
 IsRefusal words files text = IsOnly (Asks words files) (Err text)

@@ -1,12 +1,14 @@
-pub mod Commands
+pub mod Requests
 pub mod Plans
 pub mod Texts
 pub mod Accepted
 pub mod Answers
+pub mod Outputs
 pub mod Devices
 pub mod Owed
 pub mod Stops
 pub mod Inputs
 pub mod Parts
 pub mod Loaded
+pub mod Works
 pub mod Told

@@ -14,16 +14,17 @@ use Rattle.thrax_link.specs.Exports.{exports_of}
 use Rattle.thrax_link.specs.Linking.{Linked, Outcome, exporting}
 use Rattle.thrax_link.specs.declared.grammar.Export.{Export}
 use Rattle.weighted_relations.specs.Expressions.{Expression}
-use Rattle.speak_core.specs.Accepted.{CommandAsks, IsOnly, OrText, RulesOf, all_rules, need_of}
-use Rattle.speak_core.specs.Commands.{Command}
+use Rattle.speak_core.specs.Accepted.{RequestAsks, IsOnly, OrText, RulesOf, all_rules, need_of}
+use Rattle.speak_core.specs.Outputs.{checked_text}
+use Rattle.speak_core.specs.Requests.{Request}
 use Rattle.speak_core.specs.Parts.{says_of}
 use Rattle.speak_core.specs.Plans.{Plan, rules_of, saying_of}
-use Rattle.speak_core.specs.Texts.{empty_text}
+use Rattle.speak_core.specs.Texts.{absent_text, empty_text, setup_text}
 use Rattle.speak_core.specs.declared.loading.Rules.{Rules}
 use Rattle.speak_core.specs.declared.speakers.Speaker.{Speaker}
 use Rattle.speak_core.specs.declared.stop.Stop.{Stop}
 use Rattle.speak_core.specs.declared.stop.Stop.TheVariants as stop
-use Rattle.speak_core.specs.declared.words.Mode.{Mode}
+use Rattle.speak_core.specs.declared.requests.Mode.{Mode}
 
 -- A stop that tells a refusal is the one that is asked for; other stops say nothing of it.
 abbrev pub StopsAs : {A : Type 0} → (OrText A → Type 0) → Stop → Type 0
@@ -45,9 +46,9 @@ TellsText found _ = ⊥
 abbrev pub expressions_of : Vec Expr Global → List Expression
 expressions_of rules = map expression_of rules.items
 
--- the plan of some rules in a mode
-abbrev pub plan_of : Mode → Rules → Plan
-plan_of mode rules = record { mode = mode; classifier = expressions_of rules.classifier; verbaliser = expressions_of rules.verbaliser }
+-- the plan of a setup's rules in a mode
+abbrev pub plan_of : Mode → SetupNames → Rules → Plan
+plan_of mode names rules = record { mode = mode; names = names; classifier = expressions_of rules.classifier; verbaliser = expressions_of rules.verbaliser }
 
 -- Rules that a normaliser can be made of, which are as many as their names.
 pub record CanLoad (names : SetupNames) (rules : Rules) : Type 0 where
@@ -66,16 +67,24 @@ SaySame P Q = (line : List ℕ) (answer : Answer) → (P line answer → Q line 
 abbrev pub SaysOnce : Saying → Type 0
 SaysOnce P = (line : List ℕ) (a b : Answer) → P line a → P line b → a ≡ b
 
--- a plan is asked for, and by this speaker the lines say the same
-pub record Loaded (P : OrText Plan → Type 0) (s : Speaker) : Type 0 where
+-- a plan is asked for, and this fits it
+pub record Planned {B : Type 0} (Fits : Plan → B → Type 0) (P : OrText Plan → Type 0) (b : B) : Type 0 where
   pub plan : Plan
   pub is_only : IsOnly P (Ok plan)
-  pub same : SaySame (says_of s) (saying_of plan)
+  pub fits : Fits plan b
 
--- the speaker of the plan that is asked for, or the refusal
-abbrev pub FindsSpeaker : (OrText Plan → Type 0) → Result Speaker Stop → Type 0
-FindsSpeaker P (Ok s) = Loaded P s
-FindsSpeaker P (Err s) = StopsAs P s
+-- what fits the plan that is asked for, or the refusal
+abbrev pub FindsPlanned : {B : Type 0} → (Plan → B → Type 0) → (OrText Plan → Type 0) → Result B Stop → Type 0
+FindsPlanned Fits P (Ok b) = Planned Fits P b
+FindsPlanned Fits P (Err s) = StopsAs P s
+
+-- by this speaker the lines say the same as by a plan
+abbrev pub SpeaksBy : Plan → Speaker → Type 0
+SpeaksBy plan s = SaySame (says_of s) (saying_of plan)
+
+-- this text tells the sizes of a plan's rules
+abbrev pub ChecksBy : Plan → Vec ℕ Global → Type 0
+ChecksBy plan text = text.items ≡ checked_text plan
 
 -- the refusal of the first rule, by its name, of which a rewrite may read the empty text
 abbrev pub TellsFirstEmpty : List (List ℕ) → List Expression → Stop → Type 0
@@ -88,6 +97,11 @@ abbrev pub Builds : SetupNames → Plan → Result Speaker Stop → Type 0
 Builds names plan (Ok s) = SaySame (says_of s) (saying_of plan) × NoneRewritesEmpty (rules_of plan)
 Builds names plan (Err s) = TellsFirstEmpty (all_rules names) (rules_of plan) s
 
+-- the sizes of the rules of a plan that can be built, or the refusal of the first that can't
+abbrev pub Checks : SetupNames → Plan → Result (Vec ℕ Global) Stop → Type 0
+Checks names plan (Ok text) = ChecksBy plan text × NoneRewritesEmpty (rules_of plan)
+Checks names plan (Err s) = TellsFirstEmpty (all_rules names) (rules_of plan) s
+
 -- the file of this name is a setup of these names, and of no others
 pub record IsSetupFile (files : Files) (name : List ℕ) (need : Need) (names : SetupNames) : Type 0 where
   pub text : List ℕ
@@ -95,10 +109,10 @@ pub record IsSetupFile (files : Files) (name : List ℕ) (need : Need) (names : 
   pub reads : SetupText need text (Ok names)
   pub only : (other : Result SetupNames SetupFault) → SetupText need text other → other ≡ Ok names
 
--- the setup of a command, or the refusal
-abbrev pub FindsSetup : Files → Command → Result Setup Stop → Type 0
-FindsSetup files command (Ok setup) = IsSetupFile files command.setup (need_of command.mode) (names_of setup)
-FindsSetup files command (Err s) = StopsAs (CommandAsks files command) s
+-- the setup of a request, or the refusal
+abbrev pub FindsSetup : Files → Request → Result Setup Stop → Type 0
+FindsSetup files request (Ok setup) = IsSetupFile files request.setup (need_of request.mode) (names_of setup)
+FindsSetup files request (Err s) = StopsAs (RequestAsks files request) s
 
 -- the file of this name exports this, and nothing else
 pub record IsGrammarFile (files : Files) (name : List ℕ) (exports : List (List ℕ × Expression)) : Type 0 where

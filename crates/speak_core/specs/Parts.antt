@@ -55,3 +55,11 @@ pub record Speaks (says : Saying) (first : ℕ) (all : List (List ℕ)) (out out
   pub words : Appends out out' (written answers)
   pub faults : Appends err err' (told first answers)
   pub read : was_read ≡ all_read answers
+
+-- What all lines say was written as one text of their answers, and each refused line's fault.
+pub record Writes (says : Saying) (all : List (List ℕ)) (text : List Answer → List ℕ) (out out' err err' : Option (List ℕ)) (was_read : Bool) : Type 0 where
+  pub answers : List Answer
+  pub said : AllSaid says all answers
+  pub output : Appends out out' (text answers)
+  pub faults : Appends err err' (told 1 answers)
+  pub read : was_read ≡ all_read answers

@@ -4,12 +4,14 @@ use Rattle.weighted_relations.specs.Expressions.{Expression, Rel}
 use Rattle.weighted_relations.specs.Relations.{Cascade, Relation}
 use Rattle.normaliser.specs.Lines.{Classified, Saying}
 use Rattle.normaliser.specs.Words.{Words}
-use Rattle.speak_core.specs.declared.words.Mode.{Mode}
-use Rattle.speak_core.specs.declared.words.Mode.TheVariants.{Classify, Speak}
+use Rattle.speak_setup.specs.Setups.{SetupNames}
+use Rattle.speak_core.specs.declared.requests.Mode.{Mode}
+use Rattle.speak_core.specs.declared.requests.Mode.TheVariants.{Classify, Speak}
 
--- what is to be said of each line, by the classifier's rules and the verbaliser's; mode classify has none of the latter
+-- what is to be said of each line, with the names of a setup and the classifier's rules and the verbaliser's; where lines are classified alone there are none of the latter
 pub record Plan : Type 0 where
   pub mode : Mode
+  pub names : SetupNames
   pub classifier : List Expression
   pub verbaliser : List Expression
 

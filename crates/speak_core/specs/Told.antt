@@ -6,7 +6,7 @@ use Rattle.norm_base.specs.Bytes.{AppendsPrefix}
 use Rattle.norm_base.specs.Counts.{Rose}
 use Rattle.norm_base.specs.Files.{Files}
 use Rattle.speak_core.specs.Accepted.{Refused}
-use Rattle.speak_core.specs.Commands.{command_in}
+use Rattle.speak_core.specs.Requests.{job_in}
 use Rattle.speak_core.specs.Devices.{Observed, OfInput, SinkSeen, SomeRose}
 use Rattle.speak_core.specs.Inputs.{GaveMore}
 use Rattle.speak_core.specs.Owed.{Owed}
@@ -39,7 +39,7 @@ pub record TellsStop (status : ℕ) (before after : SinkSeen) (stop : Stop) : Ty
 -- A text that a run may tell last, with its cause: that the words are wrong, that what they name is refused, that a count rose, or that the input is too long. Where all is well it tells nothing.
 pub data MayTell (words : List (String Global)) (d : Observed) (files : Files) (input : List ℕ) : List ℕ → Type 0 where
   no_text : MayTell words d files input []
-  wrong_words : command_in words ≡ None → MayTell words d files input (text_of Words)
+  wrong_words : job_in words ≡ None → MayTell words d files input (text_of Words)
   refusal : (text : List ℕ) → Refused words files text → MayTell words d files input text
   outside : SomeRose d → MayTell words d files input (text_of Outside)
   too_long : IsSomeAnd d.after.source.left (λ now. GaveMore input now) → MayTell words d files input (text_of TooLong)

@@ -1,27 +1,31 @@
 //! The top call: from the words of the command, a setup and its grammars to what each line of the input says.
 //!
 //! [`speak`] is the whole program but for its devices. Its contract says, for every input: what words and files ask for
-//! (`specs/Commands.antt`, `specs/Accepted.antt`), with the text of each refusal (`specs/Texts.antt`), what each line says by the
-//! relations of the rules alone (`specs/Plans.antt`, `specs/Answers.antt`), what `out` and `err` are owed of it (`specs/Owed.antt`,
-//! `specs/Told.antt`), and the cause of each status (`specs/Stops.antt`, `specs/Inputs.antt`). No transducer and no search
+//! (`specs/Requests.antt`, `specs/Accepted.antt`), with the text of each refusal (`specs/Texts.antt`), what each line says by the
+//! relations of the rules alone (`specs/Plans.antt`, `specs/Answers.antt`), what `out` and `err` are owed of it by the job (`specs/Outputs.antt`,
+//! `specs/Owed.antt`, `specs/Told.antt`), and the cause of each status (`specs/Stops.antt`, `specs/Inputs.antt`). No transducer and no search
 //! occurs in it. What a setup is says `speak_setup`, what a grammar exports `thrax_link`, what the lines are `text_lines`, and what
 //! one line says `normaliser`.
 //!
-//! `specs/Parts.antt` and `specs/Loaded.antt` speak of the private calls alone.
+//! `specs/Parts.antt`, `specs/Loaded.antt` and `specs/Works.antt` speak of the private calls alone.
 #![tactic(auto)]
 
 mod batches;
 mod loading;
 mod outside;
+mod requests;
 mod rules;
 mod running;
+mod samples;
+mod sampling;
+mod sizes;
 mod speakers;
 mod speaking;
 mod stop;
 mod texts;
 mod top;
 mod watch;
-mod words;
+mod works;
 
 pub use speak_setup::{Need, Setup, SetupFault, read_setup};
 pub use top::speak;

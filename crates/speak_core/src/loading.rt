@@ -4,17 +4,17 @@ ghost use Rattle.std.specs.Prelude.{◌≡◌, ◌<◌, ◌≤◌, ◌++◌, All
 ghost use Rattle.normaliser.specs.Loads.{CanBeBuilt};
 ghost use Rattle.speak_setup.specs.Setups.{HasNames, HasVerbalizer, IsNamed, most_rules, names_of};
 ghost use Rattle.thrax_link.specs.Exports.{exports_of};
-ghost use Rattle.speak_core.specs.Accepted.{CommandAsks, NamesAsk, PlanOf, RulesOf, VerbaliserOf, all_rules, need_of};
-ghost use Rattle.speak_core.specs.Commands.{command_of};
-ghost use Rattle.speak_core.specs.Loaded.{Builds, CanLoad, Finds, FindsGrammar, FindsSetup, FindsSpeaker, expressions_of, plan_of};
+ghost use Rattle.speak_core.specs.Accepted.{RequestAsks, NamesAsk, PlanOf, RulesOf, VerbaliserOf, all_rules, need_of};
+ghost use Rattle.speak_core.specs.Requests.{request_of};
+ghost use Rattle.speak_core.specs.Loaded.{Builds, CanLoad, Checks, Finds, FindsGrammar, FindsSetup, FindsPlanned, ChecksBy, SpeaksBy, expressions_of, plan_of};
 ghost use Rattle.speak_core.specs.Stops.{Counts, IsRuleStop, IsReadStop};
 
 use crate::outside::fetch;
+use crate::requests::{Mode, Request};
 use crate::rules::rules_of;
 use crate::speakers::Speaker;
 use crate::stop::Stop;
-use crate::texts;
-use crate::words::{Command, Mode};
+use crate::{sizes, texts};
 use core_expressions::Expr;
 use norm_base::{Name, Shelf};
 use normaliser::{LoadFault, load};
@@ -30,35 +30,50 @@ pub(crate) struct Rules {
     pub(crate) verbaliser: Vec<Expr>,
 }
 
-/// The speaker that a command asks for.
+/// The speaker that a request asks for.
 pub(crate) fn find_speaker<H: Shelf>(
     alloc: Global,
     shelf: &mut H,
-    command: &Command<'_>,
+    request: &Request<'_>,
 ) -> Result<Speaker, Stop>
-    ensures finds { IfSome (H.files shelf.old) (λ files. FindsSpeaker (CommandAsks files (command_of command.now)) result) }
+    ensures finds { IfSome (H.files shelf.old) (λ files. FindsPlanned SpeaksBy (RequestAsks files (request_of request.now)) result) }
     ensures files { H.files shelf.new ≡ H.files shelf.old }
     ensures counts { Counts (H.faults shelf.old) (H.faults shelf.new) result }
     ensures stops { IfErr result IsReadStop }
 {
-    let setup = find_setup(alloc, shelf, command)?;
-    find_named(alloc, shelf, command.mode, &setup)
+    let setup = find_setup(alloc, shelf, request)?;
+    find_named(alloc, shelf, request.mode, &setup)
 }
 
-/// The setup of a command.
-fn find_setup<H: Shelf>(alloc: Global, shelf: &mut H, command: &Command<'_>) -> Result<Setup, Stop>
-    ensures finds { IfSome (H.files shelf.old) (λ files. FindsSetup files (command_of command.now) result) }
-    ensures names { IfOk result (λ setup. HasNames (need_of command.now.mode) (names_of setup)) }
+/// The sizes of the rules that a request asks for, as they are told, once all of them are built.
+pub(crate) fn find_checked<H: Shelf>(
+    alloc: Global,
+    shelf: &mut H,
+    request: &Request<'_>,
+) -> Result<Vec<u8>, Stop>
+    ensures finds { IfSome (H.files shelf.old) (λ files. FindsPlanned ChecksBy (RequestAsks files (request_of request.now)) result) }
     ensures files { H.files shelf.new ≡ H.files shelf.old }
     ensures counts { Counts (H.faults shelf.old) (H.faults shelf.new) result }
     ensures stops { IfErr result IsReadStop }
 {
-    let text = match fetch(shelf, command.setup) {
+    let setup = find_setup(alloc, shelf, request)?;
+    check_named(alloc, shelf, request.mode, &setup)
+}
+
+/// The setup of a request.
+fn find_setup<H: Shelf>(alloc: Global, shelf: &mut H, request: &Request<'_>) -> Result<Setup, Stop>
+    ensures finds { IfSome (H.files shelf.old) (λ files. FindsSetup files (request_of request.now) result) }
+    ensures names { IfOk result (λ setup. HasNames (need_of request.now.mode) (names_of setup)) }
+    ensures files { H.files shelf.new ≡ H.files shelf.old }
+    ensures counts { Counts (H.faults shelf.old) (H.faults shelf.new) result }
+    ensures stops { IfErr result IsReadStop }
+{
+    let text = match fetch(shelf, request.setup) {
         Ok(Some(text)) => text,
         Ok(None) => return Err(Stop::refused(Vec::from_slice(alloc, b"setup: not found\n"))),
         Err(stop) => return Err(stop),
     };
-    match read_setup(alloc, &text, need_of(command.mode)) {
+    match read_setup(alloc, &text, need_of(request.mode)) {
         Ok(setup) => Ok(setup),
         Err(SetupFault::Memory) => Err(Stop::Memory),
         Err(fault) => Err(Stop::refused(texts::setup(alloc, fault))),
@@ -83,13 +98,41 @@ fn find_named<H: Shelf>(
     setup: &Setup,
 ) -> Result<Speaker, Stop>
     requires { HasNames (need_of mode) (names_of setup.now) }
-    ensures finds { IfSome (H.files shelf.old) (λ files. FindsSpeaker (NamesAsk files mode (names_of setup.now)) result) }
+    ensures finds { IfSome (H.files shelf.old) (λ files. FindsPlanned SpeaksBy (NamesAsk files mode (names_of setup.now)) result) }
     ensures files { H.files shelf.new ≡ H.files shelf.old }
     ensures counts { Counts (H.faults shelf.old) (H.faults shelf.new) result }
     ensures stops { IfErr result IsReadStop }
 {
     let rules = find_plan(alloc, shelf, mode, setup)?;
     build(alloc, mode, setup, &rules)
+}
+
+/// The sizes of the rules of a setup.
+fn check_named<H: Shelf>(
+    alloc: Global,
+    shelf: &mut H,
+    mode: Mode,
+    setup: &Setup,
+) -> Result<Vec<u8>, Stop>
+    requires { HasNames (need_of mode) (names_of setup.now) }
+    ensures finds { IfSome (H.files shelf.old) (λ files. FindsPlanned ChecksBy (NamesAsk files mode (names_of setup.now)) result) }
+    ensures files { H.files shelf.new ≡ H.files shelf.old }
+    ensures counts { Counts (H.faults shelf.old) (H.faults shelf.new) result }
+    ensures stops { IfErr result IsReadStop }
+{
+    let rules = find_plan(alloc, shelf, mode, setup)?;
+    check(alloc, mode, setup, &rules)
+}
+
+/// The sizes of these rules, or the refusal of the first that can't be built.
+fn check(alloc: Global, mode: Mode, setup: &Setup, rules: &Rules) -> Result<Vec<u8>, Stop>
+    requires { CanLoad (names_of setup.now) rules.now }
+    ensures checks { Checks (names_of setup.now) (plan_of mode (names_of setup.now) rules.now) result }
+    ensures stops { IfErr result IsRuleStop }
+{
+    let _built = build(alloc, mode, setup, rules)?;
+    let text = sizes::all(alloc, setup, rules)?;
+    Ok(text)
 }
 
 /// The rules of a setup in a mode, the classifier's looked up before the verbaliser's.
@@ -100,7 +143,7 @@ fn find_plan<H: Shelf>(
     setup: &Setup,
 ) -> Result<Rules, Stop>
     requires { HasNames (need_of mode) (names_of setup.now) }
-    ensures finds { IfSome (H.files shelf.old) (λ files. Finds (plan_of mode) (PlanOf files mode (names_of setup.now)) result) }
+    ensures finds { IfSome (H.files shelf.old) (λ files. Finds (plan_of mode (names_of setup.now)) (PlanOf files mode (names_of setup.now)) result) }
     ensures can_load { IfOk result (CanLoad (names_of setup.now)) }
     ensures files { H.files shelf.new ≡ H.files shelf.old }
     ensures counts { Counts (H.faults shelf.old) (H.faults shelf.new) result }
@@ -185,7 +228,7 @@ fn find_grammar<H: Shelf>(alloc: Global, shelf: &mut H, file: &Name) -> Result<G
 /// The speaker of these rules, or the refusal of the first of which a rewrite may read the empty text.
 fn build(alloc: Global, mode: Mode, setup: &Setup, rules: &Rules) -> Result<Speaker, Stop>
     requires { CanLoad (names_of setup.now) rules.now }
-    ensures builds { Builds (names_of setup.now) (plan_of mode rules.now) result }
+    ensures builds { Builds (names_of setup.now) (plan_of mode (names_of setup.now) rules.now) result }
     ensures stops { IfErr result IsRuleStop }
 {
     match load(alloc, &rules.classifier, &rules.verbaliser) {

@@ -1,27 +1,35 @@
 // A run of the command.
 
-ghost use Rattle.std.specs.Prelude.{◌≡◌, ◌↔◌, ◌≤◌, IfErr, IfOk, IfSome, IsErrOf, OnOk, None, List, ℕ, String};
+ghost use Rattle.std.specs.Prelude.{◌≡◌, ◌⊎◌, ◌≤◌, IfErr, IfOk, IfSome, IsErrOf, OnOk, None, List, ℕ, String, true, false};
 ghost use Rattle.std.specs.Result.{IsErrAnd};
-ghost use Rattle.std.specs.Io.KnownBytes.{IsAtEnd};
+ghost use Rattle.std.specs.Io.KnownBytes.{Appends, IsAtEnd};
 ghost use Rattle.norm_base.specs.Bytes.{AppendsPrefix};
 ghost use Rattle.norm_base.specs.Counts.{Rose};
+ghost use Rattle.normaliser.specs.Lines.{Answer};
+ghost use Rattle.text_lines.specs.Lines.{lines};
 ghost use Rattle.speak_core.specs.Accepted.{Asks, Refused};
-ghost use Rattle.speak_core.specs.Commands.{command_in};
+ghost use Rattle.speak_core.specs.Answers.{AllSaid, told, written};
+ghost use Rattle.speak_core.specs.Requests.{job_in};
 ghost use Rattle.speak_core.specs.Devices.{seen};
 ghost use Rattle.speak_core.specs.Inputs.{GaveTooMuch, IfGaveTooMuch};
 ghost use Rattle.speak_core.specs.Loaded.{StopsAs};
+ghost use Rattle.speak_core.specs.Outputs.{reads_input};
 ghost use Rattle.speak_core.specs.Owed.{OfOwed, SpeaksAll};
-ghost use Rattle.speak_core.specs.Stops.{AllCounts, IsAccepted, IsRefusalStop};
+ghost use Rattle.speak_core.specs.Parts.{Writes, says_of};
+ghost use Rattle.speak_core.specs.Stops.{AllCounts, Counts, IsAccepted, IsDeviceStop, IsReadingStop, IsRefusalStop};
+ghost use Rattle.speak_core.specs.Works.{WorkCounts, work_lines, work_reads, work_says, work_text};
 
-use crate::loading::find_speaker;
-use crate::outside::read_all;
+use crate::outside::{put, read_all};
+use crate::sampling::speak_sample;
+use crate::speakers::Speaker;
 use crate::speaking::speak_lines;
 use crate::stop::Stop;
-use crate::words::read_words;
+use crate::works::{Work, find_work};
 use norm_base::{Shelf, Sink, Source};
+use speak_words::read_words;
 use std::alloc::Global;
 
-/// Runs the command of these words, and answers whether each line was read.
+/// Runs the job of these words, and answers whether each line was read.
 pub(crate) fn run<H: Shelf, S: Source, O: Sink, E: Sink>(
     alloc: Global,
     words: &[String],
@@ -30,7 +38,8 @@ pub(crate) fn run<H: Shelf, S: Source, O: Sink, E: Sink>(
     out: &mut O,
     err: &mut E,
 ) -> Result<bool, Stop>
-    ensures words { IsErrOf result Stop.Words ↔ (command_in words.now ≡ None) }
+    ensures words { IsErrOf result Stop.Words → job_in words.now ≡ None }
+    ensures only_words { job_in words.now ≡ None → IsErrOf result Stop.Words ⊎ IsErrOf result Stop.Memory }
     ensures refused { IfErr result (λ stop. IfSome (H.files shelf.old) (λ files. StopsAs (Asks words.now files) stop)) }
     ensures only_refused { IsAccepted result → IfSome (H.files shelf.old) (λ files. (text : List ℕ) → Refused words.now files text → ⊥) }
     ensures only_shelf { IsErrOf result Stop.Outside → IfSome (H.files shelf.old) (λ files. (text : List ℕ) → Refused words.now files text
@@ -39,7 +48,8 @@ pub(crate) fn run<H: Shelf, S: Source, O: Sink, E: Sink>(
     ensures only_too_long { IfGaveTooMuch (S.left source.old) (S.left source.new) (IsErrOf result Stop.TooLong) }
     ensures done { let devices = seen H.Shelf S.Source O.Sink E.Sink shelf.old source.old out.old err.old shelf.new source.new out.new err.new in
         IfOk result (SpeaksAll words.now devices) }
-    ensures end { OnOk result (IsAtEnd (S.left source.new)) }
+    ensures end { OnOk result (IfSome (job_in words.now) (λ job. reads_input job ≡ true → IsAtEnd (S.left source.new))) }
+    ensures kept { IfSome (job_in words.now) (λ job. reads_input job ≡ false → S.left source.new ≡ S.left source.old) }
     ensures words_front { OfOwed words.now (H.files shelf.old) (S.left source.old) (λ output faults. AppendsPrefix (O.held out.old) (O.held out.new) output) }
     ensures faults_front { OfOwed words.now (H.files shelf.old) (S.left source.old) (λ output faults. AppendsPrefix (E.held err.old) (E.held err.new) faults) }
     ensures silent_out { IsErrAnd result IsRefusalStop → O.held out.new ≡ O.held out.old }
@@ -50,10 +60,69 @@ pub(crate) fn run<H: Shelf, S: Source, O: Sink, E: Sink>(
         AllCounts devices result }
     ensures later { E.faults err.old ≤ E.faults err.new }
 {
-    let Some(command) = read_words(words) else {
+    let asked = read_words(alloc, words)?;
+    let Some(asked) = asked else {
         return Err(Stop::Words);
     };
-    let speaker = find_speaker(alloc, shelf, &command)?;
+    let work = find_work(alloc, shelf, &asked.mode)?;
+    do_work(alloc, &work, source, out, err)
+}
+
+/// Does what is left of a job, and answers whether each line was read.
+fn do_work<S: Source, O: Sink, E: Sink>(
+    alloc: Global,
+    work: &Work,
+    source: &mut S,
+    out: &mut O,
+    err: &mut E,
+) -> Result<bool, Stop>
+    ensures done { IfSome (S.left source.old) (λ input. IfOk result (Writes (work_says work.now) (work_lines work.now input) (work_text work.now) (O.held out.old) (O.held out.new) (E.held err.old) (E.held err.new))) }
+    ensures out_front { IfSome (S.left source.old) (λ input. (answers : List Answer) → AllSaid (work_says work.now) (work_lines work.now input) answers → AppendsPrefix (O.held out.old) (O.held out.new) (work_text work.now answers)) }
+    ensures err_front { IfSome (S.left source.old) (λ input. (answers : List Answer) → AllSaid (work_says work.now) (work_lines work.now input) answers → AppendsPrefix (E.held err.old) (E.held err.new) (told 1 answers)) }
+    ensures end { work_reads work.now ≡ true → OnOk result (IsAtEnd (S.left source.new)) }
+    ensures kept { work_reads work.now ≡ false → S.left source.new ≡ S.left source.old }
+    ensures too_long { IsErrOf result Stop.TooLong → GaveTooMuch (S.left source.old) (S.left source.new) }
+    ensures only_too_long { IfGaveTooMuch (S.left source.old) (S.left source.new) (IsErrOf result Stop.TooLong) }
+    ensures counts { WorkCounts (S.faults source.old) (S.faults source.new) (O.faults out.old) (O.faults out.new) (E.faults err.old) (E.faults err.new) result }
+    ensures later { E.faults err.old ≤ E.faults err.new }
+    ensures stops { IfErr result IsReadingStop }
+{
+    match work {
+        Work::Input(speaker) => speak_input(alloc, speaker, source, out, err),
+        Work::Checked(text) => tell_sizes(out, text),
+        Work::Sampled(sample) => speak_sample(alloc, sample, out, err),
+    }
+}
+
+/// Speaks the lines of the input.
+fn speak_input<S: Source, O: Sink, E: Sink>(
+    alloc: Global,
+    speaker: &Speaker,
+    source: &mut S,
+    out: &mut O,
+    err: &mut E,
+) -> Result<bool, Stop>
+    ensures done { IfSome (S.left source.old) (λ input. IfOk result (Writes (says_of speaker.now) (lines input) written (O.held out.old) (O.held out.new) (E.held err.old) (E.held err.new))) }
+    ensures out_front { IfSome (S.left source.old) (λ input. (answers : List Answer) → AllSaid (says_of speaker.now) (lines input) answers → AppendsPrefix (O.held out.old) (O.held out.new) (written answers)) }
+    ensures err_front { IfSome (S.left source.old) (λ input. (answers : List Answer) → AllSaid (says_of speaker.now) (lines input) answers → AppendsPrefix (E.held err.old) (E.held err.new) (told 1 answers)) }
+    ensures end { OnOk result (IsAtEnd (S.left source.new)) }
+    ensures too_long { IsErrOf result Stop.TooLong → GaveTooMuch (S.left source.old) (S.left source.new) }
+    ensures only_too_long { IfGaveTooMuch (S.left source.old) (S.left source.new) (IsErrOf result Stop.TooLong) }
+    ensures counts { WorkCounts (S.faults source.old) (S.faults source.new) (O.faults out.old) (O.faults out.new) (E.faults err.old) (E.faults err.new) result }
+    ensures later { E.faults err.old ≤ E.faults err.new }
+    ensures stops { IfErr result IsReadingStop }
+{
     let input = read_all(alloc, source)?;
-    speak_lines(alloc, &speaker, &input, out, err)
+    speak_lines(alloc, speaker, &input, out, err)
+}
+
+/// Writes the sizes of rules, and answers that no line was refused.
+fn tell_sizes<O: Sink>(out: &mut O, text: &[u8]) -> Result<bool, Stop>
+    ensures all { IfOk result (λ is_read. (is_read ≡ true) × Appends (O.held out.old) (O.held out.new) text.now) }
+    ensures front { AppendsPrefix (O.held out.old) (O.held out.new) text.now }
+    ensures counts { Counts (O.faults out.old) (O.faults out.new) result }
+    ensures stops { IfErr result IsDeviceStop }
+{
+    put(out, text)?;
+    Ok(true)
 }

@@ -4,7 +4,7 @@ ghost use Rattle.std.specs.Prelude.{IfOk};
 ghost use Rattle.normaliser.specs.Lines.{IsSaid};
 ghost use Rattle.speak_core.specs.Parts.{answer_of, says_of};
 
-use crate::words::Mode;
+use crate::requests::Mode;
 use normaliser::{LineFault, Normaliser, Spoken};
 use std::alloc::{AllocError, Global};
 

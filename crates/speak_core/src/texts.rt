@@ -188,7 +188,7 @@ fn pair(alloc: Global, first: &[u8], second: &[u8]) -> Result<Vec<u8>, AllocErro
 }
 
 /// The pieces of a text, one after another.
-fn joined(alloc: Global, pieces: &[&[u8]]) -> Result<Vec<u8>, AllocError>
+pub(crate) fn joined(alloc: Global, pieces: &[&[u8]]) -> Result<Vec<u8>, AllocError>
     ensures { IfOk result (λ text. text.items ≡ flat_map (λ piece. piece.now) pieces.now) }
 {
     let mut text = Vec::new(alloc);

@@ -5,10 +5,11 @@ ghost use Rattle.std.specs.Io.KnownBytes.{IsAtEnd};
 ghost use Rattle.norm_base.specs.Bytes.{AppendsPrefix};
 ghost use Rattle.norm_base.specs.Counts.{Rose};
 ghost use Rattle.speak_core.specs.Accepted.{Accepted, IsRefusal, Refused};
-ghost use Rattle.speak_core.specs.Commands.{command_in};
+ghost use Rattle.speak_core.specs.Requests.{job_in};
 ghost use Rattle.speak_core.specs.Devices.{NoneRose, OfInput, SomeRose, seen, sink_seen};
 ghost use Rattle.speak_core.specs.Inputs.{GaveTooMuch, IfGaveTooMuch};
 ghost use Rattle.speak_core.specs.Owed.{OfOwed, SpeaksAll};
+ghost use Rattle.speak_core.specs.Outputs.{reads_input};
 ghost use Rattle.speak_core.specs.Plans.{Plan};
 ghost use Rattle.speak_core.specs.Stops.{IsEnd, IsStatus, text_of, last_text};
 ghost use Rattle.speak_core.specs.declared.stop.Stop.TheVariants.{Words, Outside, Memory, TooLong};
@@ -22,11 +23,12 @@ use norm_base::{Shelf, Sink, Source};
 use std::alloc::Global;
 use std::thread::Threads;
 
-/// Speaks the lines of the source by the rules that the words and the files of the shelf name, and answers the status.
+/// Does the job that the words ask for, by the files of the shelf and the lines of the source, and answers the status.
 ///
-/// The words after the program's name are `--setup`, the name of a setup, `--mode` and `classify` or `speak`. The tokeniser's grammar is
-/// linked with all that it imports, and its rules, one to `speak_setup::MOST_RULES`, are looked up; in mode speak the verbaliser's
-/// after them. Then the rules are built and the whole input is read, of at most 268,435,456 bytes.
+/// The words are read by `speak_words`. In modes speak, classify and check the tokeniser's grammar is linked with all that it imports, and
+/// its rules, one to `speak_setup::MOST_RULES`, are looked up; but in mode classify the verbaliser's after them. Then the rules are built. In
+/// modes speak and classify the whole input is read after that, of at most 268,435,456 bytes. Mode check reads nothing of the source, and mode
+/// sample touches neither the shelf nor the source: it has files and lines of its own.
 ///
 /// In mode classify `out` gets for each line the output of its least reading through all rules of the tokeniser, one after another, and a
 /// LF. In mode speak it gets the words of the tokens that this output is, with single spaces between, and a LF; a record's words are the
@@ -34,8 +36,13 @@ use std::thread::Threads;
 /// `err` gets its number with its first fault: a byte 0, more than 16,384 bytes, or no reading; in mode speak also no token
 /// text, a record with more than 10 fields in any order, or a token without words. An empty line says nothing and isn't refused.
 ///
-/// Status 0: each line was read. 1: some line is refused. 2: the words are wrong. 3: the setup, a grammar or a rule is
+/// In mode check `out` gets a line for each rule with the size of its expression. In mode sample it gets the summary of what the lines
+/// say, and `err` their faults as in mode speak.
+///
+/// Status 0: each line was read, or the rules were checked. 1: some line is refused. 2: the words are wrong. 3: the setup, a grammar or a rule is
 /// refused. 4: a device failed, in place of 3 the shelf. 5: memory is wanting. 6: the input is too long. From 2 on, the cause is told to `err` last.
+///
+/// Modes check and sample aren't written yet: after all is built they end with status 5.
 ///
 /// The watch isn't told of any line yet.
 pub fn speak<R: Threads + Sync, H: Shelf, S: Source, O: Sink, E: Sink, W: Watch + Sync>(
@@ -51,8 +58,8 @@ pub fn speak<R: Threads + Sync, H: Shelf, S: Source, O: Sink, E: Sink, W: Watch 
     ensures range { result ≤ 6 }
 
     // The cause of each status. Of a setup, a grammar or a rule that is refused, a fault of a device is the shelf's.
-    ensures wrong_words { result ≡ 2 → command_in words.now ≡ None }
-    ensures only_wrong_words { command_in words.now ≡ None → (result ≡ 2) ⊎ (result ≡ 5) }
+    ensures wrong_words { result ≡ 2 → job_in words.now ≡ None }
+    ensures only_wrong_words { job_in words.now ≡ None → (result ≡ 2) ⊎ (result ≡ 5) }
     ensures refused { result ≡ 3 → IfSome (H.files shelf.old) (λ files. (text : List ℕ) × IsRefusal words.now files text) }
     ensures only_refused { IfSome (H.files shelf.old) (λ files. (text : List ℕ) → Refused words.now files text
         → (result ≡ 3) ⊎ ((result ≡ 5) ⊎ ((result ≡ 4) × Rose (H.faults shelf.old) (H.faults shelf.new)))) }
@@ -68,13 +75,13 @@ pub fn speak<R: Threads + Sync, H: Shelf, S: Source, O: Sink, E: Sink, W: Watch 
         result ≡ 0 → SpeaksAll words.now devices true }
     ensures some_refused { let devices = seen H.Shelf S.Source O.Sink E.Sink shelf.old source.old out.old err.old shelf.new source.new out.new err.new in
         result ≡ 1 → SpeaksAll words.now devices false }
-    ensures end { result ≤ 1 → IsAtEnd (S.left source.new) }
+    ensures end { result ≤ 1 → IfSome (job_in words.now) (λ job. reads_input job ≡ true → IsAtEnd (S.left source.new)) }
     ensures front { OfOwed words.now (H.files shelf.old) (S.left source.old) (λ output faults. AppendsPrefix (O.held out.old) (O.held out.new) output) }
     ensures silent { (result ≡ 2) ⊎ (result ≡ 3) → O.held out.new ≡ O.held out.old }
 
     // With all accepted, no count that rose and an input within its limit, the lines are spoken or memory is wanting.
     ensures complete { let devices = seen H.Shelf S.Source O.Sink E.Sink shelf.old source.old out.old err.old shelf.new source.new out.new err.new in
-        OfInput (H.files shelf.old) (S.left source.old) (λ files input. (plan : Plan) → Accepted words.now files plan → length input ≤ 2 ^ 28 → (SomeRose devices → ⊥)
+        OfInput (H.files shelf.old) (S.left source.old) (λ files input. (plan : Plan) → (accepted : Accepted words.now files plan) → (reads_input accepted.job ≡ true → length input ≤ 2 ^ 28) → (SomeRose devices → ⊥)
         → (result ≤ 1) ⊎ (result ≡ 5)) }
 
     // What is told last.
@@ -87,6 +94,7 @@ pub fn speak<R: Threads + Sync, H: Shelf, S: Source, O: Sink, E: Sink, W: Watch 
         result ≡ 5 → TellsShort words.now devices }
 
     ensures unread { (result ≡ 2) ⊎ (result ≡ 3) → S.left source.new ≡ S.left source.old }
+    ensures kept { IfSome (job_in words.now) (λ job. reads_input job ≡ false → S.left source.new ≡ S.left source.old) }
     ensures files { H.files shelf.new ≡ H.files shelf.old }
 {
     finish(run(alloc, words, shelf, source, out, err), err)

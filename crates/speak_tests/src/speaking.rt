@@ -843,11 +843,32 @@ fn the_first_fault_of_a_line_is_told(rt: HostRuntime) -> Result<(), Fail> {
 }
 
 // Words, the calls of the shelf, the source, the output and the errors that fail, the output, the errors, the status.
-const RUNS: [(&[&str], [&[u64]; 4], &[u8], &[u8], u8); 22] = [
+const RUNS: [(&[&str], [&[u64]; 4], &[u8], &[u8], u8); 25] = [
     (&[], [&[]; 4], b"", b"bad arguments\n", 2),
     (&["speak"], [&[]; 4], b"", b"bad arguments\n", 2),
     (
         &["speak", "--setup", "s"],
+        [&[]; 4],
+        b"",
+        b"setup: verbalizer_grammar is missing\n",
+        3,
+    ),
+    (
+        &["speak", "--mode", "speak"],
+        [&[]; 4],
+        b"",
+        b"bad arguments\n",
+        2,
+    ),
+    (
+        &["speak", "--setup", "s", "--jobs", "64"],
+        [&[]; 4],
+        b"",
+        b"bad arguments\n",
+        2,
+    ),
+    (
+        &["speak", "--mode", "sample", "--setup", "s"],
         [&[]; 4],
         b"",
         b"bad arguments\n",
@@ -864,8 +885,8 @@ const RUNS: [(&[&str], [&[u64]; 4], &[u8], &[u8], u8); 22] = [
         &["speak", "--setup", "s", "--mode", "check"],
         [&[]; 4],
         b"",
-        b"bad arguments\n",
-        2,
+        b"setup: verbalizer_grammar is missing\n",
+        3,
     ),
     (
         &SPEAK,
@@ -889,11 +910,11 @@ const RUNS: [(&[&str], [&[u64]; 4], &[u8], &[u8], u8); 22] = [
         2,
     ),
     (
-        &["speak", "--mode", "classify", "--setup", "s"],
+        &["speak", "--mode=classify", "--setup", "s"],
         [&[]; 4],
-        b"",
-        b"bad arguments\n",
-        2,
+        b"b\n\n",
+        b"line 2: no path\n",
+        1,
     ),
     (
         &["speak", "--setup", "s", "--mode", "classify", "--report"],

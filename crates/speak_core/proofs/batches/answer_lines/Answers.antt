@@ -1,8 +1,8 @@
-use Rattle.std.proofs.Common.{◌≡◌, ◌∙◌, List, Result, true, false, map, subst, sym}
+use Rattle.std.proofs.Common.{◌≡◌, ◌∙◌, List, Result, true, false, ap, map, subst, sym}
 use Rattle.normaliser.specs.declared.faults.LineFault.{LineFault}
 use Rattle.normaliser.specs.declared.normalisers.Spoken.{Spoken}
 use Rattle.speak_core.specs.Parts.{AnswersFront, answer_of, lines_of, says_of}
-use Rattle.speak_core.proofs.Tellings.{answers_front, answers_more}
+use Rattle.speak_core.proofs.Tellings.{answers_all, answers_front, answers_more}
 use Rattle.speak_core.proofs.batches.answer_lines.Goals as goal
 
 pub loop-line-preserved : goal.loop-line-preserved

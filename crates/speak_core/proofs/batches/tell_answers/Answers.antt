@@ -1,4 +1,4 @@
-use Rattle.std.proofs.Common.{◌≡◌, ◌∙◌, true, false, sym, arith}
+use Rattle.std.proofs.Common.{◌≡◌, ◌+◌, ◌∙◌, true, false, sym, arith}
 use Rattle.speak_core.proofs.Tellings.{tells_faults, tells_front, tells_words}
 use Rattle.speak_core.proofs.batches.tell_answers.Goals as goal
 

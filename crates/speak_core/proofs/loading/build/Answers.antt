@@ -1,4 +1,4 @@
-use Rattle.std.proofs.Common.{List, map, ap}
+use Rattle.std.proofs.Common.{◌≡◌, List, map, ap}
 use Rattle.core_expressions.specs.Views.{expression_of}
 use Rattle.core_expressions.specs.declared.expressions.Expr.{Expr}
 use Rattle.speak_setup.specs.Setups.{names_of}
@@ -16,5 +16,5 @@ returns-in-Ok-clause-builds c =
 
 pub returns-in-Err-RewritesEmpty-clause-builds : goal.returns-in-Err-RewritesEmpty-clause-builds
 returns-in-Err-RewritesEmpty-clause-builds c =
-    tells_empty (all_rules (names_of c.args.setup.now)) (rules_of (plan_of c.args.mode c.args.rules.now)) c.in-Err-RewritesEmpty.rule c.rule_name-name.result.now c.rewrites_empty.result c.refused.result c.refused.ensures c.rewrites_empty.ensures
+    tells_empty (all_rules (names_of c.args.setup.now)) (rules_of (plan_of c.args.mode (names_of c.args.setup.now) c.args.rules.now)) c.in-Err-RewritesEmpty.rule c.rule_name-name.result.now c.rewrites_empty.result c.refused.result c.refused.ensures c.rewrites_empty.ensures
     (rw (c.in-Err-RewritesEmpty.field-0-is, c.deref.ensures.value, c.deref-2.ensures.value) at c.in-Err-RewritesEmpty.ensures.refused) (rw c.in-Err-RewritesEmpty.field-0-is at c.rule_name-name.ensures)

@@ -17,4 +17,4 @@ returns-in_err-rules-clause-finds g c =
 pub returns-clause-finds : goal.returns-clause-finds
 returns-clause-finds g c =
     IfSome_then (g.H.Shelf.files c.args.shelf.now) c.in_ok-rules.ensures.finds
-    (λ files o. builds_names files c.args.mode (names_of c.args.setup.now) (plan_of c.args.mode c.in_ok-rules.rules) o c.build.result c.build.ensures.builds)
+    (λ files o. builds_names files c.args.mode (names_of c.args.setup.now) (plan_of c.args.mode (names_of c.args.setup.now) c.in_ok-rules.rules) o c.build.result c.build.ensures.builds)

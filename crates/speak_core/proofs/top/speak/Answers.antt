@@ -1,7 +1,7 @@
 use Rattle.std.proofs.Common.{inl, inr, refl, true, false}
 use Rattle.speak_core.specs.Devices.{Observed, SinkSeen, seen, sink_seen}
 use Rattle.speak_core.specs.declared.stop.Stop.TheVariants.{Words, Outside, TooLong}
-use Rattle.speak_core.proofs.Endings.{refusal_end, told_words, stopped_at, end_at, at_most_six, finished, all_read_at, some_refused_at, is_refusal, refused_end, long_end, outside_rose, none_rose, at_end, speaks_at, then_err, Known, complete_end, told_refusal, told_stop, told_short}
+use Rattle.speak_core.proofs.Endings.{refusal_end, told_words, stopped_at, words_end, at_most_six, finished, all_read_at, some_refused_at, is_refusal, refused_end, long_end, outside_rose, none_rose, at_end, speaks_at, then_err, Known, complete_end, told_refusal, told_stop, told_short}
 use Rattle.speak_core.proofs.top.speak.Given as given
 use Rattle.speak_core.proofs.top.speak.Goals as goal
 
@@ -15,26 +15,27 @@ last g c = sink_seen g.E.Sink c.finish.new.err
 
 known : (g : given.Over) → (c : goal.After-finish g) → Known c.args.words.now (g.H.Shelf.files c.args.shelf.now) (g.S.Source.left c.args.source.now) (then_err (ran g c) (last g c)) c.run.result
 known g c = record {
-  wrong = c.run.ensures.words.0;
+  wrong = c.run.ensures.words;
   refusals = c.run.ensures.refused;
   rises = outside_rose (ran g c) (last g c) c.run.result c.run.ensures.counts c.finish.ensures.later;
   long = c.run.ensures.too_long;
+  kept = c.run.ensures.kept;
 }
 
 pub returns-clause-range : goal.returns-clause-range
 returns-clause-range g c = at_most_six c.run.result c.finish.result c.finish.ensures.status
 
 pub returns-clause-wrong_words : goal.returns-clause-wrong_words
-returns-clause-wrong_words g c = λ h. c.run.ensures.words.0 (stopped_at c.run.result Words c.finish.result c.finish.ensures.status h refl refl)
+returns-clause-wrong_words g c = λ h. c.run.ensures.words (stopped_at c.run.result Words c.finish.result c.finish.ensures.status h refl refl)
 
 pub returns-clause-only_wrong_words : goal.returns-clause-only_wrong_words
-returns-clause-only_wrong_words g c = λ h. end_at c.run.result Words c.finish.result c.finish.ensures.status (c.run.ensures.words.1 h)
+returns-clause-only_wrong_words g c = λ h. words_end c.run.result c.finish.result c.finish.ensures.status (c.run.ensures.only_words h)
 
 pub returns-clause-refused : goal.returns-clause-refused
 returns-clause-refused g c = λ h. refusal_end c.args.words.now (g.H.Shelf.files c.args.shelf.now) c.run.result c.finish.result c.finish.ensures.status h c.run.ensures.refused
 
 pub returns-clause-only_refused : goal.returns-clause-only_refused
-returns-clause-only_refused g c = refused_end c.args.words.now (g.H.Shelf.files c.args.shelf.now) _ c.run.result c.finish.result c.finish.ensures.status c.run.ensures.words.0 c.run.ensures.only_refused c.run.ensures.only_shelf
+returns-clause-only_refused g c = refused_end c.args.words.now (g.H.Shelf.files c.args.shelf.now) _ c.run.result c.finish.result c.finish.ensures.status c.run.ensures.words c.run.ensures.only_refused c.run.ensures.only_shelf
 
 pub returns-clause-outside : goal.returns-clause-outside
 returns-clause-outside g c = λ h.
@@ -59,7 +60,7 @@ returns-clause-some_refused g c = λ h.
     speaks_at c.args.words.now (ran g c) (last g c) c.run.result false (some_refused_at c.run.result c.finish.result c.finish.ensures.status h) c.run.ensures.done c.finish.ensures.kept
 
 pub returns-clause-end : goal.returns-clause-end
-returns-clause-end g c = λ h. at_end (g.S.Source.left c.run.new.source) c.run.result c.run.ensures.end (finished c.run.result c.finish.result c.finish.ensures.status h)
+returns-clause-end g c = λ h. at_end _ c.run.result c.run.ensures.end (finished c.run.result c.finish.result c.finish.ensures.status h)
 
 pub returns-clause-front : goal.returns-clause-front
 returns-clause-front g c = c.run.ensures.words_front
@@ -103,3 +104,6 @@ returns-clause-unread g c = λ h. c.run.ensures.unread (is_refusal c.run.result 
 
 pub returns-clause-files : goal.returns-clause-files
 returns-clause-files g c = c.run.ensures.files
+
+pub returns-clause-kept : goal.returns-clause-kept
+returns-clause-kept g c = c.run.ensures.kept

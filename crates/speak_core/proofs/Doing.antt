@@ -1,0 +1,140 @@
+-- From what fits a plan to what its job does, and what work on lines leaves of its devices.
+use Rattle.std.proofs.Common.{◌≡◌, ℕ, List, [], ◌∷◌, None, Some, Ok, Err, Result, Bool, true, inl, inr, IfSome, IfOk, IfErr, refl, sym, ap, ◌∙◌, subst, arith}
+use Rattle.std.proofs.KnownBytes.{Appends-nil}
+use Rattle.std.specs.Io.KnownBytes.{Appends}
+use Rattle.std.specs.declared.option.Option.{Option}
+use Rattle.norm_base.specs.Files.{Files}
+use Rattle.normaliser.specs.Lines.{Answer, Saying}
+use Rattle.speak_words.specs.Asked.{Job, check, classify, sample, speak}
+use Rattle.text_lines.specs.Lines.{lines}
+use Rattle.speak_core.specs.Accepted.{JobAsks, OrText}
+use Rattle.speak_core.specs.Answers.{AllSaid, written}
+use Rattle.speak_core.specs.Inputs.{IfGaveTooMuch}
+use Rattle.speak_core.specs.Loaded.{FindsPlanned, Planned, SaySame}
+use Rattle.speak_core.specs.Outputs.{sample_lines}
+use Rattle.speak_core.specs.Parts.{Speaks, Writes, says_of}
+use Rattle.speak_core.specs.Plans.{Plan, saying_of}
+use Rattle.speak_core.specs.Stops.{Counts, IsDeviceStop, IsReadingStop, SinkCounts}
+use Rattle.speak_core.specs.Works.{CheckedBy, Does, InputBy, SampledBy, SaysNothing, WorkCounts}
+use Rattle.speak_core.specs.declared.stop.Stop.{Stop}
+use Rattle.speak_core.specs.declared.stop.Stop.TheVariants.{Words, Refused, Outside, Memory, TooLong}
+use Rattle.speak_core.specs.declared.works.Work.{Work}
+use Rattle.speak_core.specs.declared.works.Work.TheVariants.{Input, Checked, Sampled}
+use Rattle.speak_core.proofs.Said.{all_said_to}
+
+-- what fits a plan fits it otherwise too
+pub fits_through : {B : Type 0} (Fits Other : Plan → B → Type 0) (P : OrText Plan → Type 0) (r : Result B Stop) → ((plan : Plan) (b : B) → Fits plan b → Other plan b) → FindsPlanned Fits P r → FindsPlanned Other P r
+fits_through Fits Other P (Ok b) f h = record { plan = h.plan; is_only = h.is_only; fits = f h.plan b h.fits }
+fits_through Fits Other P (Err s) f h = h
+
+pub fits_as : {B C : Type 0} (Fits : Plan → B → Type 0) (Other : Plan → C → Type 0) (P : OrText Plan → Type 0) (b : B) (c : C) → ((plan : Plan) → Fits plan b → Other plan c) → Planned Fits P b → Planned Other P c
+fits_as Fits Other P b c f h = record { plan = h.plan; is_only = h.is_only; fits = f h.plan h.fits }
+
+said_nothing : (P Q : Saying) (answers : List Answer) → AllSaid P [] answers → AllSaid Q [] answers
+said_nothing P Q [] h = tt
+said_nothing P Q (a ∷ answers) h = absurd h
+
+pub input_speaks : (setup : List ℕ) (plan : Plan) (w : Work) → InputBy plan w → Does (speak setup) plan w
+input_speaks setup plan (Input s) h = record {
+  by_plan = λ input answers. all_said_to (says_of s) (saying_of plan) (λ line a. (h line a).0) (lines input) answers;
+  by_work = λ input answers. all_said_to (saying_of plan) (says_of s) (λ line a. (h line a).1) (lines input) answers;
+  text = λ answers. refl;
+}
+input_speaks setup plan (Checked text) h = absurd h
+input_speaks setup plan (Sampled s) h = absurd h
+
+pub input_classifies : (setup : List ℕ) (plan : Plan) (w : Work) → InputBy plan w → Does (classify setup) plan w
+input_classifies setup plan (Input s) h = record {
+  by_plan = λ input answers. all_said_to (says_of s) (saying_of plan) (λ line a. (h line a).0) (lines input) answers;
+  by_work = λ input answers. all_said_to (saying_of plan) (says_of s) (λ line a. (h line a).1) (lines input) answers;
+  text = λ answers. refl;
+}
+input_classifies setup plan (Checked text) h = absurd h
+input_classifies setup plan (Sampled s) h = absurd h
+
+pub rules_checked : (setup : List ℕ) (plan : Plan) (w : Work) → CheckedBy plan w → Does (check setup) plan w
+rules_checked setup plan (Input s) h = absurd h
+rules_checked setup plan (Checked text) h = record {
+  by_plan = λ input answers. said_nothing SaysNothing (saying_of plan) answers;
+  by_work = λ input answers. said_nothing (saying_of plan) SaysNothing answers;
+  text = λ answers. h;
+}
+rules_checked setup plan (Sampled s) h = absurd h
+
+pub sample_sampled : (count start : ℕ) (plan : Plan) (w : Work) → SampledBy count start plan w → Does (sample count start) plan w
+sample_sampled count start plan (Input s) h = absurd h
+sample_sampled count start plan (Checked text) h = absurd h
+sample_sampled count start plan (Sampled s) h =
+    let same : sample_lines s.count s.start ≡ sample_lines count start = ap (λ n. sample_lines n s.start) h.1 ∙ ap (λ x. sample_lines count x) h.2 in
+    record {
+      by_plan = λ input answers said. subst (λ l. AllSaid (saying_of plan) l answers) same (all_said_to (says_of s.speaker) (saying_of plan) (λ line a. (h.0 line a).0) (sample_lines s.count s.start) answers said);
+      by_work = λ input answers said. subst (λ l. AllSaid (says_of s.speaker) l answers) (sym same) (all_said_to (saying_of plan) (says_of s.speaker) (λ line a. (h.0 line a).1) (sample_lines count start) answers said);
+      text = λ answers. refl;
+    }
+
+-- what is found for a job, by what fits its plan
+pub job_finds : (known : Option Files) (Fits : Plan → Work → Type 0) (j k : Job) (r : Result Work Stop) → j ≡ k → ((plan : Plan) (w : Work) → Fits plan w → Does k plan w)
+    → IfSome known (λ files. FindsPlanned Fits (JobAsks files k) r) → IfSome known (λ files. FindsPlanned (Does j) (JobAsks files j) r)
+job_finds None Fits j k r is f h = tt
+job_finds (Some files) Fits j k r is f h = subst (λ (i : Job). FindsPlanned (Does i) (JobAsks files i) r) (sym is) (fits_through Fits (Does k) (JobAsks files k) r f h)
+
+-- counts
+
+pub never_rose : {T : Type 0} (n : ℕ) (r : Result T Stop) → (r ≡ Err Outside → ⊥) → Counts n n r
+never_rose n (Ok x) h = refl
+never_rose n (Err Words) h = refl
+never_rose n (Err (Refused text)) h = refl
+never_rose n (Err Outside) h = absurd (h refl)
+never_rose n (Err Memory) h = refl
+never_rose n (Err TooLong) h = refl
+
+pub put_counts : {T : Type 0} (source out out' err : ℕ) (r : Result T Stop) → Counts out out' r → WorkCounts source source out out' err err r
+put_counts source out out' err (Ok x) h = (refl, h, refl)
+put_counts source out out' err (Err Words) h = (refl, h, refl)
+put_counts source out out' err (Err (Refused text)) h = (refl, h, refl)
+put_counts source out out' err (Err Outside) h = inr (inl h)
+put_counts source out out' err (Err Memory) h = tt
+put_counts source out out' err (Err TooLong) h = (refl, h, refl)
+
+pub sink_counts : {T : Type 0} (source out out' err err' : ℕ) (r : Result T Stop) → SinkCounts out out' err err' r → IfErr r IsDeviceStop → WorkCounts source source out out' err err' r
+sink_counts source out out' err err' (Ok x) h k = (refl, h.0, h.1)
+sink_counts source out out' err err' (Err Words) h k = absurd k
+sink_counts source out out' err err' (Err (Refused text)) h k = absurd k
+sink_counts source out out' err err' (Err Outside) h k = inr h
+sink_counts source out out' err err' (Err Memory) h k = tt
+sink_counts source out out' err err' (Err TooLong) h k = absurd k
+
+-- stops
+
+pub reading_stops : {T : Type 0} (r : Result T Stop) → IfErr r IsDeviceStop → IfErr r IsReadingStop
+reading_stops (Ok x) h = tt
+reading_stops (Err Words) h = absurd h
+reading_stops (Err (Refused text)) h = absurd h
+reading_stops (Err Outside) h = tt
+reading_stops (Err Memory) h = tt
+reading_stops (Err TooLong) h = tt
+
+pub device_not_long : {T : Type 0} (P : Type 0) (r : Result T Stop) → IfErr r IsDeviceStop → r ≡ Err TooLong → P
+device_not_long P r h is = absurd (subst (λ v. IfErr v IsDeviceStop) is h)
+
+-- a source that isn't read gives nothing
+pub none_given : (left : Option (List ℕ)) (P : Type 0) → IfGaveTooMuch left left P
+none_given None P = tt
+none_given (Some l) P = λ more. absurd (omega (arith, more))
+
+-- what is written
+
+pub where_known : {X : Type 0} (known : Option X) (P : X → Type 0) → ((x : X) → P x) → IfSome known P
+where_known None P f = tt
+where_known (Some x) P f = f x
+
+pub speaks_writes : (P : Saying) (all : List (List ℕ)) (out out' err err' : Option (List ℕ)) (is_read : Bool) → Speaks P 1 all out out' err err' is_read → Writes P all written out out' err err' is_read
+speaks_writes P all out out' err err' is_read h = record { answers = h.answers; said = h.said; output = h.words; faults = h.faults; read = h.read }
+
+pub text_writes : (text : List ℕ) (out out' err : Option (List ℕ)) (is_read : Bool) → (is_read ≡ true) × Appends out out' text → Writes SaysNothing [] (λ answers. text) out out' err err is_read
+text_writes text out out' err is_read h = record { answers = []; said = tt; output = h.1; faults = Appends-nil err; read = h.0 }
+
+-- what is known of an input that was read
+pub of_input : (left : Option (List ℕ)) (P : List ℕ → Type 0) (bytes : List ℕ) → IfSome left (λ input. bytes ≡ input) → P bytes → IfSome left P
+of_input None P bytes is h = tt
+of_input (Some input) P bytes is h = subst P is h
