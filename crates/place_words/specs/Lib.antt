@@ -1,0 +1,9 @@
+pub mod Places
+pub mod Modes
+pub mod Steps
+pub mod Alone
+pub mod History
+pub mod Rule
+pub mod Laws
+pub mod Plays
+pub mod Seats
