@@ -26,13 +26,17 @@ use Rattle.least_path.specs.Waiting.{Fits}
 use Rattle.least_path.specs.Marks.{mark_of, best_of}
 use Rattle.least_path.specs.Growths.{Steps}
 use Rattle.least_path.specs.Keeps.{IsEdge}
+use Rattle.least_path.specs.Ending.{CanEnd, Every}
 use Rattle.least_path.specs.Relaxing.{Marked, IsMet, IsDone, Waits, Kept, Gained, IsBest}
+use Rattle.least_path.proofs.Onward.{StepsOn, Ending, ending_cases, reach_on, reach_from}
 use Rattle.least_path.proofs.Rounds.{Known, first_node, read_way, way_read, step_fits}
 
 -- After so many nodes were taken, with these on the lists. Each adds less than 2 ^ 56 to a weight, and at most one label to an output.
 pub record Runs (m : Machine) (c : Cascaded) (s : Relaxed) (lists : List ℕ) (taken : ℕ) : Type 0 where
   pub kept : Kept s
-  pub searched : Searched (Steps m c) (first_node m c) (IsDone s) (Waits s)
+  pub start : Under (IsDone s) (first_node m c) 0 [] ⊎ Under (Waits s) (first_node m c) 0 []
+  pub edges : (n o : Node) (w u : ℕ) (y z : List ℕ) → IsDone s n w y → Steps m c n o u z → CanEnd m c o → Under (IsDone s) o (w + u) (y ++ z) ⊎ Under (Waits s) o (w + u) (y ++ z)
+  pub reached : (n : Node) (w : ℕ) (y : List ℕ) → IsMet s n w y → Reach (Steps m c) (first_node m c) n w y
   pub open_end : (w : ℕ) (y : List ℕ) → IsDone s End w y → ⊥
   pub known : (k : ℕ) (v : Node) → slice_get s.nodes k ≡ Some v → Known m c v
   pub listed : (k : ℕ) (b : Entry) → mark_of s.marks.items k ≡ Waiting b → (slice_get s.nodes k ≡ Some End) ⊎ Contains lists k
@@ -78,12 +82,8 @@ module _ (m : Machine) (c : Cascaded) where
   same_reach : (n o : Node) (v w : ℕ) (x y : List ℕ) → n ≡ o → v ≡ w → x ≡ y → Reach (Steps m c) (first_node m c) n v x → Reach (Steps m c) (first_node m c) o w y
   same_reach n o v w x y a b d h = subst (λ t. Reach (Steps m c) (first_node m c) t w y) a (subst (λ t. Reach (Steps m c) (first_node m c) n t y) b (subst (λ t. Reach (Steps m c) (first_node m c) n v t) d h))
 
-  module _ (s : Relaxed) (lists : List ℕ) (taken : ℕ) (runs : Runs m c s lists taken) where
-    met_reach : (n : Node) (w : ℕ) (y : List ℕ) → IsMet s n w y → Reach (Steps m c) (first_node m c) n w y
-    met_reach n w y h = elim (met_cases s n w y h) [ inl k ↦ runs.searched.true_done n w y k | inr k ↦ runs.searched.true_waiting n w y k ]
-
   -- the first node is met, and nothing else
-  module _ (wf : WellFormed m) (closed : IsClosed c) (s0 s : Relaxed) (nodes : s0.nodes ≡ []) (gained : Gained s0 s 0 [] (IsEdge (first_node m c) 0 [])) where
+  module _ (wf : WellFormed m) (closed : IsClosed c) (s0 s : Relaxed) (nodes : s0.nodes ≡ []) (gained : Gained Every s0 s 0 [] (IsEdge (first_node m c) 0 [])) where
     empty : {has : Mark → Entry → Type 0} (n : Node) (v : ℕ) (x : List ℕ) → Marked has s0 n v x → ⊥
     empty n v x h = (let at : slice_get [] h.number ≡ Some n = subst (λ xs. slice_get xs h.number ≡ Some n) nodes h.node in cc)
 
@@ -96,12 +96,9 @@ module _ (m : Machine) (c : Cascaded) where
     pub runs_start : s0.marks.items ≡ [] → Runs m c s s.lists 0
     runs_start marks = record {
       kept = gained.kept;
-      searched = record {
-        start = under_cases s (first_node m c) 0 [] (gained.covered (first_node m c) 0 [] (refl, refl, refl));
-        edges = λ n o w u y z d e. absurd (empty n w y (gained.done n w y d));
-        true_done = λ n w y d. absurd (empty n w y (gained.done n w y d));
-        true_waiting = λ n w y h. (let o = only n w y (waits_met s n w y h) in same_reach (first_node m c) n 0 w [] y (sym o.0) (sym o.1) (sym o.2) here);
-      };
+      start = under_cases s (first_node m c) 0 [] (gained.covered (first_node m c) 0 [] (refl, refl, refl) tt);
+      edges = λ n o w u y z d e l. absurd (empty n w y (gained.done n w y d));
+      reached = λ n w y h. (let o = only n w y h in same_reach (first_node m c) n 0 w [] y (sym o.0) (sym o.1) (sym o.2) here);
       open_end = λ w y d. empty End w y (gained.done End w y d);
       known = λ k v h. elim (gained.new_nodes k v h) [
         | inl i ↦ (let at : slice_get [] k ≡ Some v = subst (λ xs. slice_get xs k ≡ Some v) nodes i in cc)
@@ -120,12 +117,9 @@ module _ (m : Machine) (c : Cascaded) where
       → ((k : ℕ) (b : Entry) → mark_of old.marks.items k ≡ Waiting b → Contains lists k → (slice_get old.nodes k ≡ Some End) ⊎ Contains rest k) → Runs m c (with_lists old rest) rest more
   runs_lists old lists rest taken more l runs places listed = record {
     kept = record { one_end = runs.kept.one_end; even = runs.kept.even; fits = runs.kept.fits; places = places };
-    searched = record {
-      start = under_cases (with_lists old rest) (first_node m c) 0 [] (other_under (first_node m c) 0 [] (under_met old (first_node m c) 0 [] runs.searched.start));
-      edges = λ n o w u y z d e. under_cases (with_lists old rest) o (w + u) (y ++ z) (other_under o (w + u) (y ++ z) (under_met old o (w + u) (y ++ z) (runs.searched.edges n o w u y z (same n w y d) e)));
-      true_done = λ n w y d. runs.searched.true_done n w y (same n w y d);
-      true_waiting = λ n w y h. runs.searched.true_waiting n w y (same n w y h);
-    };
+    start = under_cases (with_lists old rest) (first_node m c) 0 [] (other_under (first_node m c) 0 [] (under_met old (first_node m c) 0 [] runs.start));
+    edges = λ n o w u y z d e l. under_cases (with_lists old rest) o (w + u) (y ++ z) (other_under o (w + u) (y ++ z) (under_met old o (w + u) (y ++ z) (runs.edges n o w u y z (same n w y d) e l)));
+    reached = λ n w y h. runs.reached n w y (same n w y h);
     open_end = λ w y d. runs.open_end w y (same End w y d);
     known = runs.known;
     listed = λ k b h. elim (runs.listed k b h) [ inl e ↦ inl e | inr e ↦ listed k b h e ];
@@ -153,9 +147,19 @@ module _ (m : Machine) (c : Cascaded) where
     end_node : (n : Node) (v : ℕ) (x : List ℕ) → Waits s n v x → n ≡ End
     end_node n v x h = (let both : Some n ≡ Some End = sym h.node ∙ waits_end n v x h in cc)
 
+    -- as a search over the steps on to the end, if there is a way there
+    on_to_end : CanEnd m c (first_node m c) → Searched (StepsOn m c) (first_node m c) (Ending m c (IsDone s)) (Ending m c (Waits s))
+    on_to_end first = record {
+      start = ending_cases m c (IsDone s) (Waits s) (first_node m c) 0 [] first runs.start;
+      edges = λ n o w u y z d e. ending_cases m c (IsDone s) (Waits s) o (w + u) (y ++ z) e.1 (runs.edges n o w u y z d.0 e.0 e.1);
+      true_done = λ n w y d. reach_on m c (runs.reached n w y (done_met s n w y d.0)) d.1;
+      true_waiting = λ n w y h. reach_on m c (runs.reached n w y (waits_met s n w y h.0)) h.1;
+    }
+
     pub runs_none : ((w : ℕ) (y : List ℕ) → IsMet s End w y → ⊥) → Least (Cascade Reads c.parts) (IsInput (Reads m)) None
     runs_none unmet x y w accepts reads =
-        none (Steps m c) (first_node m c) (IsDone s) (Waits s) runs.searched End runs.open_end (λ n v z h. unmet v z (waits_met s End v z (subst (λ t. Waits s t v z) (end_node n v z h) h))) w y (read_way m c law x y w accepts reads)
+        let way = read_way m c law x y w accepts reads in
+        none (StepsOn m c) (first_node m c) (Ending m c (IsDone s)) (Ending m c (Waits s)) (on_to_end (reach_from m c way tt)) End (λ v z d. runs.open_end v z d.0) (λ n v z h. unmet v z (waits_met s End v z (subst (λ t. Waits s t v z) (end_node n v z h.0) h.0))) w y (reach_on m c way tt)
 
     pub runs_found : (b : Entry) → IsBest s End b → Least (Cascade Reads c.parts) (IsInput (Reads m)) (Some (b.weight, text_of s.outputs b.output))
     runs_found b is =
@@ -168,8 +172,10 @@ module _ (m : Machine) (c : Cascaded) where
         let output : text_of s.outputs b.output ≡ x = sym met.output ∙ ap (λ (e : Entry). text_of s.outputs e.output) way ∙ h.output in
         subst (λ t. Below b.weight (text_of s.outputs b.output) t x) weight (subst (Below b.weight (text_of s.outputs b.output) b.weight) output (below_refl b.weight (text_of s.outputs b.output))) in
         record {
-          reads = way_read m c law (text_of s.outputs b.output) b.weight (met_reach s [] taken runs End b.weight (text_of s.outputs b.output) met);
-          least = λ x z v accepts reads. answer (Steps m c) (first_node m c) (IsDone s) (Waits s) runs.searched End b.weight (text_of s.outputs b.output) runs.open_end one v z (read_way m c law x z v accepts reads);
+          reads = way_read m c law (text_of s.outputs b.output) b.weight (runs.reached End b.weight (text_of s.outputs b.output) met);
+          least = λ x z v accepts reads.
+              let way = read_way m c law x z v accepts reads in
+              answer (StepsOn m c) (first_node m c) (Ending m c (IsDone s)) (Ending m c (Waits s)) (on_to_end (reach_from m c way tt)) End b.weight (text_of s.outputs b.output) (λ v z d. runs.open_end v z d.0) (λ n v x h. one n v x h.0) v z (reach_on m c way tt);
         }
 
   -- a node is taken
@@ -245,9 +251,9 @@ module _ (m : Machine) (c : Cascaded) where
         | inr ne ↦ inl (record { number = h.number; way = h.way; node = h.node; mark = sym (other h.number ne) ∙ h.mark; weight = h.weight; output = h.output })
       ]
 
-      module _ (wf : WellFormed m) (closed : IsClosed c) (new : Relaxed) (gained : Gained (with_done old rest k b) new b.weight (text_of old.outputs b.output) (Steps m c (At q t))) where
+      module _ (wf : WellFormed m) (closed : IsClosed c) (new : Relaxed) (gained : Gained (CanEnd m c) (with_done old rest k b) new b.weight (text_of old.outputs b.output) (Steps m c (At q t))) where
         own_reach : Reach (Steps m c) (first_node m c) (At q t) b.weight (text_of old.outputs b.output)
-        own_reach = met_reach old old.lists taken runs (At q t) b.weight (text_of old.outputs b.output) own_met
+        own_reach = runs.reached (At q t) b.weight (text_of old.outputs b.output) own_met
 
         later : (n : Node) (v : ℕ) (x : List ℕ) → Under (IsDone old) n v x ⊎ Under (Waits old) n v x → Under (IsDone new) n v x ⊎ Under (Waits new) n v x
         later n v x h =
@@ -256,25 +262,22 @@ module _ (m : Machine) (c : Cascaded) where
 
         reach_of : (n : Node) (v : ℕ) (x : List ℕ) → IsMet new n v x → Reach (Steps m c) (first_node m c) n v x
         reach_of n v x h = elim (gained.sound n v x h) [
-          | inl i ↦ met_reach old old.lists taken runs n v x (met_was n v x i)
+          | inl i ↦ runs.reached n v x (met_was n v x i)
           | inr i ↦ same_reach n n (b.weight + i.0) v (text_of old.outputs b.output ++ i.1) x refl (sym i.3) (sym i.4) (on own_reach i.2)
         ]
 
         pub runs_more : Runs m c new new.lists (taken + 1)
         runs_more = record {
           kept = gained.kept;
-          searched = record {
-            start = later (first_node m c) 0 [] runs.searched.start;
-            edges = λ n o w u y z d e. elim (done_was n w y (gained.done n w y d)) [
-              | inl i ↦ later o (w + u) (y ++ z) (runs.searched.edges n o w u y z i e)
-              | inr i ↦
-                  let edge : Steps m c (At q t) o u z = subst (λ a. Steps m c a o u z) i.0 e in
-                  let under : Under (IsMet new) o (b.weight + u) (text_of old.outputs b.output ++ z) = gained.covered o u z edge in
-                  under_cases new o (w + u) (y ++ z) (subst (λ v. Under (IsMet new) o (v + u) (y ++ z)) (sym i.1) (subst (λ x. Under (IsMet new) o (b.weight + u) (x ++ z)) (sym i.2) under))
-            ];
-            true_done = λ n w y d. reach_of n w y (done_met new n w y d);
-            true_waiting = λ n w y h. reach_of n w y (waits_met new n w y h);
-          };
+          start = later (first_node m c) 0 [] runs.start;
+          edges = λ n o w u y z d e l. elim (done_was n w y (gained.done n w y d)) [
+            | inl i ↦ later o (w + u) (y ++ z) (runs.edges n o w u y z i e l)
+            | inr i ↦
+                let edge : Steps m c (At q t) o u z = subst (λ a. Steps m c a o u z) i.0 e in
+                let under : Under (IsMet new) o (b.weight + u) (text_of old.outputs b.output ++ z) = gained.covered o u z edge l in
+                under_cases new o (w + u) (y ++ z) (subst (λ v. Under (IsMet new) o (v + u) (y ++ z)) (sym i.1) (subst (λ x. Under (IsMet new) o (b.weight + u) (x ++ z)) (sym i.2) under))
+          ];
+          reached = reach_of;
           open_end = λ w y d. elim (done_was End w y (gained.done End w y d)) [
             | inl i ↦ runs.open_end w y i
             | inr i ↦ (let e : End ≡ At q t = i.0 in cc)

@@ -15,3 +15,5 @@ pub mod Wholes
 pub mod Arriving
 pub mod Meeting
 pub mod Corrections
+pub mod Onward
+pub mod Refused

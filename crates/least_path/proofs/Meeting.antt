@@ -19,6 +19,7 @@ use Rattle.least_path.specs.Notes.{Noted, HasOneEnd}
 use Rattle.least_path.specs.Marks.{mark_of, best_of, IsShorter}
 use Rattle.least_path.specs.Keeps.{IsEdge}
 use Rattle.least_path.specs.Growths.{Leading}
+use Rattle.least_path.specs.Ending.{Every}
 use Rattle.least_path.specs.Relaxing.{Marked, IsMet, Kept, Gained}
 use Rattle.least_path.proofs.Growing.{IsGrowth}
 use Rattle.least_path.proofs.Letters.{grows_same, grows_text, grows_trans}
@@ -84,7 +85,7 @@ module _ (old new : Relaxed) (n : Node) (i : ℕ) (mid : List Mark) (noted : Not
       elim p [ inl k ↦ inl k | inr k ↦ inr (k.0, inl (let s : b.length < len = k.1 in omega arith)) ]
 
   -- where its best way is no greater, nothing changes
-  pub gained_passed : new.marks.items ≡ mid → new.lists ≡ old.lists → (w : ℕ) (y : List ℕ) (u : ℕ) (z : List ℕ) (b : Entry) → best_of (mark_of mid i) ≡ Some b → Below b.weight (text_of new.outputs b.output) (w + u) (y ++ z) → Gained old new w y (IsEdge n u z)
+  pub gained_passed : new.marks.items ≡ mid → new.lists ≡ old.lists → (w : ℕ) (y : List ℕ) (u : ℕ) (z : List ℕ) (b : Entry) → best_of (mark_of mid i) ≡ Some b → Below b.weight (text_of new.outputs b.output) (w + u) (y ++ z) → Gained Every old new w y (IsEdge n u z)
   gained_passed marked lists w y u z b best below =
       let same : (k : ℕ) → mark_of new.marks.items k ≡ mark_of old.marks.items k = λ k. ap (λ xs. mark_of xs k) marked ∙ noted_same noted k in
       record {
@@ -99,7 +100,7 @@ module _ (old new : Relaxed) (n : Node) (i : ℕ) (mid : List Mark) (noted : Not
         new_nodes = new_nodes u z;
         done = λ m v x h. was m v x (λ t d e. ap best_of e) h (same h.number);
         stays = λ m v x h. record { weight = v; output = x; entry = stay m v x (λ t d e. e) h (same h.number); below = below_refl v x };
-        covered = λ m v x e. record {
+        covered = λ m v x e h. record {
           weight = b.weight;
           output = text_of new.outputs b.output;
           entry = own_met b (ap (λ xs. best_of (mark_of xs i)) marked ∙ best) m e.0;
@@ -120,7 +121,7 @@ module _ (old new : Relaxed) (n : Node) (i : ℕ) (mid : List Mark) (noted : Not
 
     pub gained_better : All (λ k. k < length new.nodes) new.lists → ((k : ℕ) → Contains old.lists k → Contains new.lists k) → Contains new.lists i ⊎ ((d : Entry) × (mark_of old.marks.items i ≡ Waiting d))
         → (w : ℕ) (y : List ℕ) (u : ℕ) (z : List ℕ) → e.weight ≡ w + u → text_of new.outputs e.output ≡ y ++ z
-        → ((b : Entry) → best_of (mark_of mid i) ≡ Some b → Below e.weight (text_of new.outputs e.output) b.weight (text_of new.outputs b.output)) → Gained old new w y (IsEdge n u z)
+        → ((b : Entry) → best_of (mark_of mid i) ≡ Some b → Below e.weight (text_of new.outputs e.output) b.weight (text_of new.outputs b.output)) → Gained Every old new w y (IsEdge n u z)
     gained_better places queued there w y u z weight output better =
         let found : best_of (mark_of new.marks.items i) ≡ Some e = ap best_of own in
         record {
@@ -158,7 +159,7 @@ module _ (old new : Relaxed) (n : Node) (i : ℕ) (mid : List Mark) (noted : Not
                 }
             | inr q ↦ record { weight = v; output = x; entry = stay m v x (λ t d e. e) h (other h.number q); below = below_refl v x }
           ];
-          covered = λ m v x k. record {
+          covered = λ m v x k h. record {
             weight = e.weight;
             output = text_of new.outputs e.output;
             entry = own_met e found m k.0;
@@ -186,23 +187,24 @@ module _ (old new : Relaxed) (n : Node) (i : ℕ) (mid : List Mark) (noted : Not
           queued = queued;
         }
 
-pub gained_none : (s : Relaxed) (w : ℕ) (y : List ℕ) (D : Leading) → Kept s → ((n : Node) (u : ℕ) (z : List ℕ) → D n u z → ⊥) → Gained s s w y D
-gained_none s w y D kept empty = record {
+-- where no edge leads to a node that counts, nothing is to be met
+pub gained_none : (counts : Node → Type 0) (s : Relaxed) (w : ℕ) (y : List ℕ) (D : Leading) → Kept s → ((n : Node) (u : ℕ) (z : List ℕ) → D n u z → counts n → ⊥) → Gained counts s s w y D
+gained_none counts s w y D kept empty = record {
   kept = kept;
   texts = grows_same s.outputs s.outputs refl;
   nodes = λ k n h. h;
   new_nodes = λ k n h. inl h;
   done = λ n v x h. h;
   stays = λ n v x h. record { weight = v; output = x; entry = h; below = below_refl v x };
-  covered = λ n u z h. absurd (empty n u z h);
+  covered = λ n u z h k. absurd (empty n u z h k);
   sound = λ n v x h. inl h;
   listed = λ k b h. inr (b, h);
   queued = λ k h. h;
 }
 
-gained_then : (a b c : Relaxed) (w : ℕ) (y : List ℕ) (D1 D2 D : Leading) → Gained a b w y D1 → Gained b c w y D2
-    → ((n : Node) (u : ℕ) (z : List ℕ) → D n u z → D1 n u z ⊎ D2 n u z) → ((n : Node) (u : ℕ) (z : List ℕ) → D1 n u z → D n u z) → ((n : Node) (u : ℕ) (z : List ℕ) → D2 n u z → D n u z) → Gained a c w y D
-gained_then a b c w y D1 D2 D f g split first second =
+gained_then : (counts : Node → Type 0) (a b c : Relaxed) (w : ℕ) (y : List ℕ) (D1 D2 D : Leading) → Gained counts a b w y D1 → Gained counts b c w y D2
+    → ((n : Node) (u : ℕ) (z : List ℕ) → D n u z → D1 n u z ⊎ D2 n u z) → ((n : Node) (u : ℕ) (z : List ℕ) → D1 n u z → D n u z) → ((n : Node) (u : ℕ) (z : List ℕ) → D2 n u z → D n u z) → Gained counts a c w y D
+gained_then counts a b c w y D1 D2 D f g split first second =
     let later : (n : Node) (v : ℕ) (x : List ℕ) → Under (IsMet b) n v x → Under (IsMet c) n v x = λ n v x h. under_more (IsMet c) n h.weight v h.output x h.below (g.stays n h.weight h.output h.entry) in
     record {
       kept = g.kept;
@@ -214,9 +216,9 @@ gained_then a b c w y D1 D2 D f g split first second =
       ];
       done = λ n v x h. f.done n v x (g.done n v x h);
       stays = λ n v x h. later n v x (f.stays n v x h);
-      covered = λ n u z h. elim (split n u z h) [
-        | inl i ↦ later n (w + u) (y ++ z) (f.covered n u z i)
-        | inr i ↦ g.covered n u z i
+      covered = λ n u z h k. elim (split n u z h) [
+        | inl i ↦ later n (w + u) (y ++ z) (f.covered n u z i k)
+        | inr i ↦ g.covered n u z i k
       ];
       sound = λ n v x h. elim (g.sound n v x h) [
         | inl i ↦ elim (f.sound n v x i) [ inl j ↦ inl j | inr j ↦ inr (j.0, j.1, first n j.0 j.1 j.2, j.3, j.4) ]
@@ -229,23 +231,38 @@ gained_then a b c w y D1 D2 D f g split first second =
       queued = λ k h. g.queued k (f.queued k h);
     }
 
-pub gained_as : (a b : Relaxed) (w : ℕ) (y : List ℕ) (D E : Leading) → Gained a b w y D → ((n : Node) (u : ℕ) (z : List ℕ) → E n u z ↔ D n u z) → Gained a b w y E
-gained_as a b w y D E f same = record {
+pub gained_as : (counts : Node → Type 0) (a b : Relaxed) (w : ℕ) (y : List ℕ) (D E : Leading) → Gained counts a b w y D → ((n : Node) (u : ℕ) (z : List ℕ) → E n u z ↔ D n u z) → Gained counts a b w y E
+gained_as counts a b w y D E f same = record {
   kept = f.kept;
   texts = f.texts;
   nodes = f.nodes;
   new_nodes = λ k n h. elim (f.new_nodes k n h) [ inl j ↦ inl j | inr j ↦ inr (j.0, j.1, (same n j.0 j.1).1 j.2) ];
   done = f.done;
   stays = f.stays;
-  covered = λ n u z h. f.covered n u z ((same n u z).0 h);
+  covered = λ n u z h k. f.covered n u z ((same n u z).0 h) k;
   sound = λ n v x h. elim (f.sound n v x h) [ inl j ↦ inl j | inr j ↦ inr (j.0, j.1, (same n j.0 j.1).1 j.2, j.3, j.4) ];
   listed = f.listed;
   queued = f.queued;
 }
 
-pub gained_growth : (w : ℕ) (y : List ℕ) → IsGrowth (λ a b D. Gained a b w y D)
-gained_growth w y = record { joins = λ a b c D1 D2 D. gained_then a b c w y D1 D2 D; says = λ a b D E. gained_as a b w y D E }
+pub gained_growth : (counts : Node → Type 0) (w : ℕ) (y : List ℕ) → IsGrowth (λ a b D. Gained counts a b w y D)
+gained_growth counts w y = record { joins = λ a b c D1 D2 D. gained_then counts a b c w y D1 D2 D; says = λ a b D E. gained_as counts a b w y D E }
+
+-- what holds of every node holds of those that count
+pub gained_of : (counts : Node → Type 0) (a b : Relaxed) (w : ℕ) (y : List ℕ) {D : Leading} → Gained Every a b w y D → Gained counts a b w y D
+gained_of counts a b w y f = record {
+  kept = f.kept;
+  texts = f.texts;
+  nodes = f.nodes;
+  new_nodes = f.new_nodes;
+  done = f.done;
+  stays = f.stays;
+  covered = λ n u z h k. f.covered n u z h tt;
+  sound = f.sound;
+  listed = f.listed;
+  queued = f.queued;
+}
 
 -- the same output by other words
-pub gained_at : (b c : Relaxed) (w : ℕ) (y y' : List ℕ) {D : Leading} → y' ≡ y → Gained b c w y' D → Gained b c w y D
-gained_at b c w y y' {D} e g = subst (λ t. Gained b c w t D) e g
+pub gained_at : (counts : Node → Type 0) (b c : Relaxed) (w : ℕ) (y y' : List ℕ) {D : Leading} → y' ≡ y → Gained counts b c w y' D → Gained counts b c w y D
+gained_at counts b c w y y' {D} e g = subst (λ t. Gained counts b c w t D) e g

@@ -100,7 +100,8 @@ module _ {A B : Type 0} (m : Machine) (g : Graph A B) (q0 : ℕ) (t0 : A) where
       let sum : w + (g.weight e.arc + w') ≡ (w + u) + w' = (let f : u ≡ g.weight e.arc = e.weight in omega arith) in
       reads_as text sum (h (label (g.input e.arc) x) (label (g.output e.arc) y') (g.weight e.arc + w') there r')
 
-  says : {n : Joint A} {w : ℕ} {y : List ℕ} → Reach (Together m g) (Some (q0, t0)) n w y → Says n w y
+  -- a way says it
+  pub says : {n : Joint A} {w : ℕ} {y : List ℕ} → Reach (Together m g) (Some (q0, t0)) n w y → Says n w y
   says here = λ x y' w' accepts reads. reads_as refl (let e : w' ≡ 0 + w' = omega arith in e) (record { input = x; accepts = accepts; reads = reads })
   says (on {n} {m = o} {w} {u} {y} {z} way edge) = says_more n o w u y z (says way) edge
 

@@ -8,5 +8,6 @@ pub mod Notes
 pub mod Standings
 pub mod Keeps
 pub mod Growths
+pub mod Ending
 pub mod Marks
 pub mod Relaxing

@@ -4,7 +4,8 @@
 //! one list (`outputs`). Two searches are there:
 //!
 //! - By lists (`listing`): nodes are taken in the order in which they came, first those at this place of the source and then those after the next
-//!   label. Each keeps the best way so far (`marks`, `nodes`), and one that gets a lesser way waits again (`relaxing`). It is right
+//!   label. Each keeps the best way so far (`marks`, `nodes`), and one that gets a lesser way waits again (`relaxing`). Nodes from which the
+//!   next label of the source can't be read are left out (`ending`). It is right
 //!   whatever the order: where nothing waits, each way has one that is kept and no greater. Where it takes nodes too often, it gives up.
 //! - By an ordered queue (`searching`): the first entry that waits is the least way to its node, so each node is taken once; of the ways to a
 //!   node the best one so far is kept, so that most wait once (`standings`, `reaching`).
@@ -17,6 +18,7 @@
 #![tactic(auto)]
 
 mod answers;
+mod ending;
 mod expanding;
 mod hashing;
 mod listing;

@@ -10,7 +10,6 @@ use crate::nodes::{Nodes, meet};
 use crate::outputs::Outputs;
 use crate::queue::Entry;
 use crate::reaching::longer;
-use state_tuples::{Tuple, TupleArc};
 use std::alloc::{AllocError, Global};
 
 /// The nodes met, what is known of each, the outputs, and the nodes that wait.
@@ -25,8 +24,8 @@ pub(crate) struct Relaxed {
 impl Relaxed {
     ghost use Rattle.least_path.specs.Texts.{text_of};
     ghost use Rattle.least_path.specs.Waiting.{Fits};
-    ghost use Rattle.least_path.specs.Growths.{AlongMoves};
     ghost use Rattle.least_path.specs.Keeps.{IsEdge};
+    ghost use Rattle.least_path.specs.Ending.{Every};
     ghost use Rattle.least_path.specs.Relaxing.{Kept, Gained, IsBest, IsEmpty, IsMet};
 
     /// Nothing is met. There is room for so many nodes.
@@ -55,7 +54,7 @@ impl Relaxed {
         requires from { Fits self.old.outputs from.now }
         requires light { from.now.weight < 2 ^ 127 }
         requires short { from.now.length + 1 < 2 ^ 64 }
-        ensures { OnOk result (Gained self.old self.new from.now.weight (text_of self.old.outputs from.now.output) (IsEdge node weight (written output []))) }
+        ensures { OnOk result (Gained Every self.old self.new from.now.weight (text_of self.old.outputs from.now.output) (IsEdge node weight (written output []))) }
     {
         let number = meet(&mut self.nodes, &mut self.marks, node)?;
         let weight = from.weight + weight as u128;
@@ -79,32 +78,6 @@ impl Relaxed {
             return Ok(());
         }
         self.lists.put(number, turn)?;
-        Ok(())
-    }
-
-    /// What these moves lead to is met, with the source at a state.
-    pub(crate) fn relax_all(
-        &mut self,
-        state: usize,
-        tuple: &Tuple,
-        from: &Entry,
-        moves: &[TupleArc],
-        turn: Turn,
-    ) -> Result<(), AllocError>
-        requires kept { Kept self.old }
-        requires from { Fits self.old.outputs from.now }
-        requires light { from.now.weight < 2 ^ 127 }
-        requires short { from.now.length + 1 < 2 ^ 64 }
-        ensures { OnOk result (Gained self.old self.new from.now.weight (text_of self.old.outputs from.now.output) (AlongMoves state tuple.now moves.now)) }
-    {
-        for a in moves {
-            let next = Tuple {
-                cascade: tuple.cascade,
-                states: a.states,
-                filters: a.filters,
-            };
-            self.relax(Node::At(state, next), from, a.weight, a.output, turn)?;
-        }
         Ok(())
     }
 

@@ -5,8 +5,11 @@ ghost use Rattle.state_tuples.specs.Calls.{IsKnown};
 ghost use Rattle.least_path.specs.Starting.{StopsAfter};
 ghost use Rattle.least_path.specs.Waiting.{Fits};
 ghost use Rattle.least_path.specs.Relaxing.{Kept, GainedFrom};
-ghost use Rattle.least_path.specs.Growths.{Steps, AlongArc, AtEnd};
+ghost use Rattle.least_path.specs.Growths.{Steps, AlongArc, AlongMoves, AtEnd};
+ghost use Rattle.least_path.specs.Texts.{Grows};
+ghost use Rattle.weighted_relations.specs.Machines.{final_of};
 
+use crate::ending::is_dead;
 use crate::lists::Turn;
 use crate::node::Node;
 use crate::queue::Entry;
@@ -15,7 +18,7 @@ use fst_core::{Arc, Fst};
 use state_tuples::{Expander, Tuple, TupleArc};
 use std::alloc::AllocError;
 
-/// What a node leads to is met.
+/// What a node leads to is met, but for nodes that are known not to lead to the end.
 pub(crate) fn spread<X: Expander>(
     source: &Fst,
     x: &mut X,
@@ -32,22 +35,57 @@ pub(crate) fn spread<X: Expander>(
     requires from { Fits search.old.outputs from.now }
     requires light { from.now.weight < 2 ^ 127 }
     requires short { from.now.length + 1 < 2 ^ 64 }
-    ensures gained { OnOk result (GainedFrom (X.cascades x.old) tuple.now search.old search.new from.now (λ c. Steps source.now c (Node.At state tuple.now))) }
+    ensures gained { OnOk result (GainedFrom source.now (X.cascades x.old) tuple.now search.old search.new from.now (λ c. Steps source.now c (Node.At state tuple.now))) }
     ensures ready { X.is_ready x.new }
     ensures on { OnOk result (X.goes_on x.old x.new) }
     ensures up { OnErr result (StopsAfter X.goes_on X.gives_up x.old x.new) }
 {
     x.arcs_on(tuple, 0, buffer)?;
-    search.relax_all(state, tuple, from, buffer, Turn::Now)?;
+    spread_moves(x, source, state, tuple, from, search, buffer, Turn::Now)?;
     for arc in source.arcs_of(state) {
-        spread_along(x, arc, tuple, from, search, buffer)?;
+        spread_along(source, x, arc, tuple, from, search, buffer)?;
     }
-    spread_to_end(x, source.final_of(state), tuple, from, search)?;
+    spread_to_end(source, x, state, tuple, from, search)?;
+    Ok(())
+}
+
+/// What these moves lead to is met, with the source at a state.
+fn spread_moves<X: Expander>(
+    x: &X,
+    source: &Fst,
+    state: usize,
+    tuple: &Tuple,
+    from: &Entry,
+    search: &mut Relaxed,
+    moves: &[TupleArc],
+    turn: Turn,
+) -> Result<(), AllocError>
+    requires state { state < length source.now.arcs }
+    requires kept { Kept search.old }
+    requires from { Fits search.old.outputs from.now }
+    requires light { from.now.weight < 2 ^ 127 }
+    requires short { from.now.length + 1 < 2 ^ 64 }
+    ensures kept { OnOk result (Kept search.new) }
+    ensures texts { OnOk result (Grows search.old.outputs search.new.outputs) }
+    ensures gained { OnOk result (GainedFrom source.now (X.cascades x.now) tuple.now search.old search.new from.now (λ c. AlongMoves state tuple.now moves.now)) }
+{
+    for a in moves {
+        let next = Tuple {
+            cascade: tuple.cascade,
+            states: a.states,
+            filters: a.filters,
+        };
+        if is_dead(x, source, state, &next) {
+            continue;
+        }
+        search.relax(Node::At(state, next), from, a.weight, a.output, turn)?;
+    }
     Ok(())
 }
 
 /// What one arc of the source leads to is met. Where it reads, this waits for the next list.
 fn spread_along<X: Expander>(
+    source: &Fst,
     x: &mut X,
     arc: &Arc,
     tuple: &Tuple,
@@ -58,11 +96,12 @@ fn spread_along<X: Expander>(
     requires ready { X.is_ready x.old }
     requires known { IsKnown (X.cascades x.old) tuple.now }
     requires label { arc.now.input ≤ 257 }
+    requires next { arc.now.next < length source.now.arcs }
     requires kept { Kept search.old }
     requires from { Fits search.old.outputs from.now }
     requires light { from.now.weight < 2 ^ 127 }
     requires short { from.now.length + 1 < 2 ^ 64 }
-    ensures gained { OnOk result (GainedFrom (X.cascades x.old) tuple.now search.old search.new from.now (λ c. AlongArc c tuple.now arc.now arc.now.input)) }
+    ensures gained { OnOk result (GainedFrom source.now (X.cascades x.old) tuple.now search.old search.new from.now (λ c. AlongArc c tuple.now arc.now arc.now.input)) }
     ensures ready { X.is_ready x.new }
     ensures on { OnOk result (X.goes_on x.old x.new) }
     ensures up { OnErr result (StopsAfter X.goes_on X.gives_up x.old x.new) }
@@ -72,30 +111,32 @@ fn spread_along<X: Expander>(
         return Ok(());
     }
     x.arcs_on(tuple, arc.input, buffer)?;
-    search.relax_all(arc.next, tuple, from, buffer, Turn::Next)?;
+    spread_moves(x, source, arc.next, tuple, from, search, buffer, Turn::Next)?;
     Ok(())
 }
 
 /// The end is met, where the source is at an end and the tuple is.
 fn spread_to_end<X: Expander>(
+    source: &Fst,
     x: &mut X,
-    last: Option<u64>,
+    state: usize,
     tuple: &Tuple,
     from: &Entry,
     search: &mut Relaxed,
 ) -> Result<(), AllocError>
     requires ready { X.is_ready x.old }
     requires known { IsKnown (X.cascades x.old) tuple.now }
+    requires state { state < length source.now.arcs }
     requires kept { Kept search.old }
     requires from { Fits search.old.outputs from.now }
     requires light { from.now.weight < 2 ^ 127 }
     requires short { from.now.length + 1 < 2 ^ 64 }
-    ensures gained { OnOk result (GainedFrom (X.cascades x.old) tuple.now search.old search.new from.now (λ c. AtEnd c tuple.now last)) }
+    ensures gained { OnOk result (GainedFrom source.now (X.cascades x.old) tuple.now search.old search.new from.now (λ c. AtEnd c tuple.now (final_of source.now.finals state))) }
     ensures ready { X.is_ready x.new }
     ensures on { OnOk result (X.goes_on x.old x.new) }
     ensures up { OnErr result (StopsAfter X.goes_on X.gives_up x.old x.new) }
 {
-    let Some(_) = last else {
+    let Some(_) = source.final_of(state) else {
         return Ok(());
     };
     let Some(weight) = x.finality(tuple)? else {

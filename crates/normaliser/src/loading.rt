@@ -17,7 +17,7 @@ use core_expressions::Expr;
 use fst_core::Fst;
 use grammar_build::{BuildFault, build};
 use state_tuples::Cascade;
-use std::alloc::Global;
+use std::alloc::{AllocError, Global};
 
 /// The normaliser of these rules: its classifier reads a line by the first list, from the first rule to the last, and its verbaliser
 /// reads a record's texts by the second. Each list has at most [`MOST_PARTS`](state_tuples::MOST_PARTS) rules. A verbaliser of no rules has no
@@ -39,21 +39,24 @@ pub fn load(
 {
     let classifying = build_all(alloc, classifier, 0)?;
     let verbalising = build_all(alloc, verbaliser, classifier.len())?;
+    let classifier = Cascade::looking_ahead(alloc, 0, classifying)?;
+    let verbaliser = cascade_of(alloc, 1, verbalising)?;
     Ok(Normaliser {
-        classifier: Cascade::new(0, classifying),
-        verbaliser: cascade_of(1, verbalising),
+        classifier,
+        verbaliser,
     })
 }
 
 /// The cascade of these parts, where there are any.
-fn cascade_of(number: u32, parts: Vec<Fst>) -> Option<Cascade>
+fn cascade_of(alloc: Global, number: u32, parts: Vec<Fst>) -> Result<Option<Cascade>, AllocError>
     requires { length parts.items ≤ most_parts }
-    ensures { parts_of result ≡ parts.items }
+    ensures { IfOk result (λ c. parts_of c ≡ parts.items) }
 {
     if parts.is_empty() {
-        return None;
+        return Ok(None);
     }
-    Some(Cascade::new(number, parts))
+    let cascade = Cascade::looking_ahead(alloc, number, parts)?;
+    Ok(Some(cascade))
 }
 
 /// The transducers of these rules, or the refusal of the first of which a rewrite may read the empty text. So many rules come before

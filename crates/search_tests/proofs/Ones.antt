@@ -2,7 +2,7 @@
 use Rattle.std.proofs.Common.{◌≡◌, [], ◌∷◌, subst, arith, inl, inr}
 use Rattle.std.specs.Prelude.{Contains}
 use Rattle.weighted_relations.specs.Machines.{Machine, Reads}
-use Rattle.weighted_relations.specs.Relations.{Cascade, IsUnmarked}
+use Rattle.weighted_relations.specs.Relations.{Cascade, Composed, IsUnmarked}
 use Rattle.weighted_relations.specs.SearchRunLaws.{contains_first, contains_cases}
 use Rattle.state_tuples.specs.declared.tuples.Tuple.{Tuple}
 use Rattle.state_tuples.specs.Cascades.{Cascaded, first_tuple}
@@ -19,3 +19,10 @@ pub one_writes : (m : Machine) (c : Cascaded) (t : Tuple) → IsUnmarked (Reads 
 one_writes m c t plain parts d s x y w r =
     let own : Cascade Reads c.parts x y w = subst (λ (e : Cascaded). Cascade Reads e.parts x y w) (only c d s.one) r in
     (plain x y w (subst (λ ms. Cascade Reads ms x y w) parts own)).1
+
+-- a cascade of two parts, of which the second writes no marks
+pub two_write : (a b : Machine) (c : Cascaded) (t : Tuple) → IsUnmarked (Reads b) → c.parts ≡ a ∷ b ∷ [] → WritesBytes (c ∷ []) t
+two_write a b c t plain parts d s x y w r =
+    let own : Cascade Reads c.parts x y w = subst (λ (e : Cascaded). Cascade Reads e.parts x y w) (only c d s.one) r in
+    let both : Composed (Reads a) (Reads b) x y w = subst (λ ms. Cascade Reads ms x y w) parts own in
+    (plain both.middle y both.w2 both.second).1

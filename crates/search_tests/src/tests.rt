@@ -131,7 +131,20 @@ fn cascade_of(alloc: Global, rule: Fst) -> Result<Cascade, AllocError>
 {
     let mut parts = Vec::new(alloc);
     parts.push(rule)?;
-    Ok(Cascade::new(3, parts))
+    let cascade = Cascade::looking_ahead(alloc, 3, parts)?;
+    Ok(cascade)
+}
+
+/// The cascade of two parts.
+fn cascade_of_two(alloc: Global, first: Fst, second: Fst) -> Result<Cascade, AllocError>
+    requires { IsUnmarked (Reads second) }
+    ensures { IfOk result (λ c. WritesBytes (c ∷ []) (first_tuple c)) }
+{
+    let mut parts = Vec::new(alloc);
+    parts.push(first)?;
+    parts.push(second)?;
+    let cascade = Cascade::looking_ahead(alloc, 4, parts)?;
+    Ok(cascade)
 }
 
 /// The least reading of a cascade at the inputs of a source.

@@ -10,3 +10,6 @@ pub mod Counted
 pub mod Lists
 pub mod Staged
 pub mod Arranged
+pub mod FirstPart
+pub mod InCodes
+pub mod CodedExpansions

@@ -1,9 +1,14 @@
 -- Lists that are mapped, kept in part and joined.
 use Rattle.std.specs.Prelude.{◌≡◌, Bool, true, false, cond, List, [], ◌∷◌, ◌++◌, Option, Some, None, map, option_map, All}
-use Rattle.std.specs.List.{filter, flat_map, filter_map, cons_option}
-use Rattle.std.proofs.Common.{refl, sym, ◌∙◌, ap}
+use Rattle.std.specs.List.{Contains, filter, flat_map, filter_map, cons_option}
+use Rattle.std.proofs.Common.{zero, suc, refl, sym, ◌∙◌, ap, arith}
 use Rattle.std.proofs.lemmas.List.{map-append}
 use Rattle.std.proofs.lemmas.List.Elements.{filter-append, All-head, All-tail, All-nil, All-cons, All-append}
+
+-- what one element alone contains
+pub only_one : {X : Type 0} (v d : X) → Contains (v ∷ []) d → v ≡ d
+only_one v d (zero, l, e) = e
+only_one v d (suc k, l, e) = absurd (omega arith)
 
 -- all that is kept passes the test, or none of it
 pub passed_alike : {W Y : Type 0} (p : Y → Bool) (h : W → Option Y) (b : Bool) → ((w : W) (y : Y) → h w ≡ Some y → p y ≡ b) → (ws : List W) → filter p (filter_map h ws) ≡ cond b (filter_map h ws) []

@@ -53,10 +53,10 @@ module _ (c : Cascaded) (sound : IsSound c) where
       rw (states, filters)
 
   -- the composed paths from a position
-  abbrev PathsFrom : List ℕ → List ℕ → ℕ → Position → Type 0
+  abbrev pub PathsFrom : List ℕ → List ℕ → ℕ → Position → Type 0
   PathsFrom x y w p = (cs : List Combination) × ComposedPath (backwards c) p.states p.filters cs x y w
 
-  composed_of : {t : Tuple} {ks x y : List ℕ} {w : ℕ} → GraphPath (tuple_graph c) t ks x y w → PathsFrom x y w (position_of c t)
+  pub composed_of : {t : Tuple} {ks x y : List ℕ} {w : ℕ} → GraphPath (tuple_graph c) t ks x y w → PathsFrom x y w (position_of c t)
   composed_of (stop {s = t} {w} e) =
       let p = position_of c t in
       ([], end (ends_of (backwards c) p.states p.filters w (position_lengths c sound t) e))

@@ -1,8 +1,10 @@
 -- What the calls of an expander are owed and answer.
-use Rattle.std.specs.Prelude.{◌≡◌, ℕ, ◌+◌, ◌-◌, ◌^◌, List, Option, Some, None, slice_get, Contains, if◌then◌else◌, ◌==◌}
+use Rattle.std.specs.Prelude.{◌≡◌, ℕ, ◌+◌, List, Option, Some, None, slice_get, Contains}
 use Rattle.state_tuples.specs.declared.tuples.Tuple.{Tuple}
 use Rattle.state_tuples.specs.declared.tuples.TupleArc.{TupleArc}
-use Rattle.state_tuples.specs.Cascades.{Cascaded, IsOf, end_of}
+use Rattle.weighted_relations.specs.Graphs.{GraphFrom}
+use Rattle.look_ahead.specs.Aheads.{first_label}
+use Rattle.state_tuples.specs.Cascades.{Cascaded, IsOf, end_of, tuple_graph}
 use Rattle.state_tuples.specs.Orders.{Ordered, moves_on}
 
 -- no two have one number
@@ -21,7 +23,15 @@ AreArcsOn cs t label arcs = (c : Cascaded) → Contains cs c → IsOf c t → Or
 abbrev pub IsEndOf : List Cascaded → Tuple → Option ℕ → Type 0
 IsEndOf cs t last = (c : Cascaded) → Contains cs c → IsOf c t → last ≡ end_of c t
 
--- a number of calls, where it is told, is one more; it stands still at the greatest u64
+-- No path over the tuples of the cascade from this one reads the label next. With label 0, none that reads nothing ends.
+abbrev pub ReadsNot : Cascaded → Tuple → ℕ → Type 0
+ReadsNot c t label = (x y : List ℕ) (w : ℕ) → GraphFrom (tuple_graph c) t x y w → first_label x ≡ label → ⊥
+
+-- so it is in the cascade that the tuple's number names
+abbrev pub CannotRead : List Cascaded → Tuple → ℕ → Type 0
+CannotRead cs t label = (c : Cascaded) → Contains cs c → t.cascade ≡ c.number → ReadsNot c t label
+
+-- a number of calls, where it is told, is one more
 abbrev pub IsCounted : Option ℕ → Option ℕ → Type 0
 IsCounted None now = now ≡ None
-IsCounted (Some n) now = now ≡ Some (if n == 2 ^ 64 - 1 then n else n + 1)
+IsCounted (Some n) now = now ≡ Some (n + 1)

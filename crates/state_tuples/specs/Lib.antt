@@ -6,3 +6,4 @@ pub mod Orders
 pub mod Calls
 pub mod Bounds
 pub mod OneCascade
+pub mod Codes

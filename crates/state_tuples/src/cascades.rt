@@ -1,25 +1,31 @@
 // A cascade.
 
-ghost use Rattle.std.specs.Prelude.{◌≡◌, ◌<◌, ◌≤◌, All, IsTrue, get_or, length, []};
+ghost use Rattle.std.specs.Prelude.{◌≡◌, ◌<◌, ◌≤◌, All, IfOk, IsTrue, false, get_or, length, []};
 ghost use Rattle.compose_filter.specs.ComposedPaths.{starts};
 ghost use Rattle.fst_core.specs.Sorted.{HasSortedRows};
 ghost use Rattle.weighted_relations.specs.Machines.{WellFormed, final_of};
+ghost use Rattle.look_ahead.specs.Aheads.{IsAhead};
 ghost use Rattle.state_tuples.specs.Positions.{back, most_parts, padded};
+ghost use Rattle.state_tuples.specs.Calls.{ReadsNot};
 ghost use Rattle.state_tuples.specs.Cascades.{IsOf, IsSound, first_tuple, no_part};
 
 use crate::tuples::{MOST_PARTS, States, Tuple};
 use fst_core::{Arc, Fst};
+use look_ahead::LookAhead;
+use std::alloc::{AllocError, Global};
 use std::marker::Model;
 
 /// One to [`MOST_PARTS`](crate::MOST_PARTS) transducers, each of which reads what the one before it writes, with a number that tells the cascade from others.
 ///
 /// It keeps whether the arcs of each state of each part stand in the order of their inputs. Where they do, those that read a label
-/// are found by a search.
+/// are found by a search. It may keep what the ways from each state of its first part read next, so that a search can leave out tuples from
+/// which the next label can't be read.
 #[derive(Drop)]
 pub struct Cascade {
     number: u32,
     pub(crate) parts: Vec<Fst>,
     is_sorted: bool,
+    ahead: Option<LookAhead>,
 }
 
 impl Model for Cascade {
@@ -30,7 +36,7 @@ impl Model for Cascade {
 
     ghost view = { λ c. record { number = c.number; parts = c.parts.items } };
 
-    ghost invariant = { λ c. IsKept (record { number = c.number; parts = c.parts.items }) c.is_sorted };
+    ghost invariant = { λ c. IsKept (record { number = c.number; parts = c.parts.items }) c.is_sorted c.ahead };
 }
 
 impl Cascade {
@@ -45,7 +51,24 @@ impl Cascade {
             number,
             parts,
             is_sorted,
+            ahead: None,
         }
+    }
+
+    /// The same cascade, which also keeps what its first part reads next.
+    pub fn looking_ahead(alloc: Global, number: u32, parts: Vec<Fst>) -> Result<Cascade, AllocError>
+        requires some { 0 < length parts.items }
+        requires few { length parts.items ≤ most_parts }
+        ensures value { IfOk result (λ c. c ≡ record { number = number; parts = parts.items }) }
+    {
+        let is_sorted = all_sorted(&parts);
+        let ahead = ahead_of(alloc, &parts)?;
+        Ok(Cascade {
+            number,
+            parts,
+            is_sorted,
+            ahead: Some(ahead),
+        })
     }
 
     /// Its number.
@@ -68,6 +91,17 @@ impl Cascade {
         ensures { IsTrue result → All HasSortedRows self.now.parts }
     {
         self.is_sorted
+    }
+
+    /// Whether some path from the tuple may read this label next; with label 0, whether some path that reads nothing may end. It takes no
+    /// memory, and the state of the first part decides.
+    pub fn may_read(&self, t: &Tuple, label: u16) -> bool
+        ensures none { result ≡ false → ReadsNot self.now t.now label }
+    {
+        match &self.ahead {
+            Some(ahead) => ahead.may(t.states[0], label),
+            None => true,
+        }
     }
 
     /// The arcs of the part at a place, at one of its states.
@@ -114,6 +148,14 @@ fn all_sorted(parts: &[Fst]) -> bool
         sorted = part.is_sorted() && sorted;
     }
     sorted
+}
+
+/// What the first part reads next.
+fn ahead_of(alloc: Global, parts: &[Fst]) -> Result<LookAhead, AllocError>
+    requires some { 0 < length parts.now }
+    ensures { IfOk result (IsAhead (get_or parts.now 0 no_part)) }
+{
+    LookAhead::new(alloc, &parts[0])
 }
 
 /// Where the parts start, with zeros after them.

@@ -1,8 +1,8 @@
 // What gives a search the moves of tuples.
 
-ghost use Rattle.std.specs.Prelude.{◌≡◌, ◌≤◌, All, IfOk, OnErr, OnOk, []};
+ghost use Rattle.std.specs.Prelude.{◌≡◌, ◌≤◌, All, IfOk, OnErr, OnOk, false, []};
 ghost use Rattle.state_tuples.specs.Cascades.{Cascaded, IsSound};
-ghost use Rattle.state_tuples.specs.Calls.{AreArcsOn, HaveOwnNumbers, IsCounted, IsEndOf, IsKnown};
+ghost use Rattle.state_tuples.specs.Calls.{AreArcsOn, CannotRead, HaveOwnNumbers, IsCounted, IsEndOf, IsKnown};
 
 use crate::tuples::{Tuple, TupleArc};
 use std::alloc::AllocError;
@@ -49,6 +49,11 @@ pub trait Expander {
         ensures on { OnOk result (goes_on self.old self.new) }
         ensures up { OnErr result (gives_up self.old self.new) }
         ensures counted { IsCounted (calls self.old) (calls self.new) };
+
+    /// Whether some path from the tuple may read this label next; with label 0, whether some path that reads nothing may end. It is no call
+    /// that is counted, and takes no memory.
+    fn may_read(&self, t: &Tuple, label: u16) -> bool
+        ensures none { result ≡ false → CannotRead (cascades self.now) t.now label };
 
     ghost sound: { (x : Self) → is_ready x → All IsSound (cascades x) };
 

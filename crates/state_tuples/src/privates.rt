@@ -77,6 +77,10 @@ impl<'a> Expander for Private<'a> {
         Ok(end_at(cascade, t))
     }
 
+    fn may_read(&self, t: &Tuple, label: u16) -> bool {
+        self.cascade.may_read(t, label)
+    }
+
     ghost sound = { sound };
 
     ghost own_numbers = { own_numbers };

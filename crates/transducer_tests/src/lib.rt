@@ -8,6 +8,8 @@
 #[cfg(test)]
 mod acceptors;
 #[cfg(test)]
+mod aheads;
+#[cfg(test)]
 mod compositions;
 #[cfg(test)]
 mod grammars;

@@ -2,12 +2,30 @@
 
 ghost use Rattle.std.specs.Prelude.{◌<◌};
 
-use super::{as_reading, cascade_of, has_no_mark, least_at, least_by_queue_at, plain};
+use super::{
+    as_reading, cascade_of, cascade_of_two, has_no_mark, least_at, least_by_queue_at, plain,
+};
 use crate::{Reading, least_of};
 use fst_core::{Arc, Fst, union};
 use std::alloc::{AllocError, Global};
 use std::process::Abort;
 use std::test::Fail;
+
+/// The letters that a rule reads and those that it writes.
+struct Letters {
+    read: (u16, u16),
+    written: (u16, u16),
+}
+
+const FIRST: Letters = Letters {
+    read: (97, 98),
+    written: (120, 121),
+};
+
+const SECOND: Letters = Letters {
+    read: (120, 121),
+    written: (112, 113),
+};
 
 /// A fixed sequence of numbers, after Knuth's linear congruential generator.
 #[derive(Drop)]
@@ -29,21 +47,21 @@ impl Numbers {
     }
 
     /// The empty label as often as not, or one of two letters.
-    fn label(&mut self, first: u16, second: u16) -> u16 {
+    fn label(&mut self, letters: (u16, u16)) -> u16 {
         match self.below(4) {
-            0 => first,
-            1 => second,
+            0 => letters.0,
+            1 => letters.1,
             _ => 0,
         }
     }
 
     /// An arc to one of so many states.
-    fn arc(&mut self, states: u64) -> Arc
+    fn arc(&mut self, letters: &Letters, states: u64) -> Arc
         requires { 0 < states }
     {
         Arc {
-            input: self.label(97, 98),
-            output: self.label(120, 121),
+            input: self.label(letters.read),
+            output: self.label(letters.written),
             weight: self.below(3),
             next: self.below(states) as usize,
         }
@@ -51,24 +69,33 @@ impl Numbers {
 }
 
 /// A transducer of at most five states, with at most five arcs each.
-fn random_rule(alloc: Global, numbers: &mut Numbers) -> Result<Option<Fst>, AllocError> {
+fn random_rule(
+    alloc: Global,
+    numbers: &mut Numbers,
+    letters: &Letters,
+) -> Result<Option<Fst>, AllocError> {
     let mut arcs = Vec::new(alloc);
     let mut finals = Vec::new(alloc);
     let states = 1 + numbers.below(5);
     for _ in 0..states {
-        arcs.push(random_row(alloc, numbers, states)?)?;
+        arcs.push(random_row(alloc, numbers, letters, states)?)?;
         let last = numbers.below(6);
         finals.push(if last < 3 { Some(last) } else { None })?;
     }
     Ok(Fst::new(0, arcs, finals))
 }
 
-fn random_row(alloc: Global, numbers: &mut Numbers, states: u64) -> Result<Vec<Arc>, AllocError>
+fn random_row(
+    alloc: Global,
+    numbers: &mut Numbers,
+    letters: &Letters,
+    states: u64,
+) -> Result<Vec<Arc>, AllocError>
     requires { 0 < states }
 {
     let mut row = Vec::new(alloc);
     for _ in 0..numbers.below(6) {
-        row.push(numbers.arc(states))?;
+        row.push(numbers.arc(letters, states))?;
     }
     Ok(row)
 }
@@ -127,7 +154,7 @@ fn all_searches_agree(rt: HostRuntime) -> Result<(), Fail> {
     let mut numbers = Numbers { state: 20_261_201 };
     let mut found: u32 = 0;
     for _ in 0..4000 {
-        if let Some(rule) = random_rule(alloc, &mut numbers)? {
+        if let Some(rule) = random_rule(alloc, &mut numbers, &FIRST)? {
             let first = random_line(alloc, &mut numbers)?;
             let second = random_line(alloc, &mut numbers)?;
             if agree(&rt, alloc, rule, &first, &second)? {
@@ -137,5 +164,42 @@ fn all_searches_agree(rt: HostRuntime) -> Result<(), Fail> {
     }
     assert!(rt; found > 1000, "{found} readings");
     assert!(rt; found < 3500, "{found} readings");
+    Ok(())
+}
+
+/// Compares the search that looks ahead with the queue, which doesn't, on a cascade of two parts. Whether it has a reading.
+fn agree_on_two(
+    rt: &impl Abort,
+    alloc: Global,
+    first: Fst,
+    second: Fst,
+    line: &[u8],
+) -> Result<bool, Fail> {
+    assert!(rt; has_no_mark(&second));
+    let source = plain(alloc, line)?;
+    let cascade = cascade_of_two(alloc, first, second)?;
+    let answer = least_at(alloc, &source, &cascade)?;
+    let queued = least_by_queue_at(alloc, &source, &cascade)?;
+    assert!(rt; queued == answer, "at {line:?}");
+    Ok(answer.is_some())
+}
+
+#[test]
+fn searches_agree_on_two_parts(rt: HostRuntime) -> Result<(), Fail> {
+    let alloc = rt.alloc();
+    let mut numbers = Numbers { state: 20_261_202 };
+    let mut found: u32 = 0;
+    for _ in 0..2000 {
+        let first = random_rule(alloc, &mut numbers, &FIRST)?;
+        let second = random_rule(alloc, &mut numbers, &SECOND)?;
+        let line = random_line(alloc, &mut numbers)?;
+        if let (Some(first), Some(second)) = (first, second) {
+            if agree_on_two(&rt, alloc, first, second, &line)? {
+                found = found.saturating_add(1);
+            }
+        }
+    }
+    assert!(rt; found > 100, "{found} readings");
+    assert!(rt; found < 1900, "{found} readings");
     Ok(())
 }

@@ -82,6 +82,10 @@ impl<'a> Expander for GivingUp<'a> {
         self.inner.finality(t)
     }
 
+    fn may_read(&self, t: &Tuple, label: u16) -> bool {
+        self.inner.may_read(t, label)
+    }
+
     ghost sound = { sound };
 
     ghost own_numbers = { own_numbers };

@@ -18,6 +18,7 @@ use Rattle.least_path.specs.Starting.{StartsAt, IsStart, IsLeastFrom, WritesByte
 use Rattle.least_path.specs.Growths.{Steps}
 use Rattle.least_path.specs.Marks.{mark_of}
 use Rattle.least_path.specs.Keeps.{IsEdge}
+use Rattle.least_path.specs.Ending.{Every}
 use Rattle.least_path.specs.Relaxing.{Gained, GainedFrom, IsBest}
 use Rattle.least_path.proofs.Stops.{stops_later}
 use Rattle.least_path.proofs.Wholes.{byte_small}
@@ -35,10 +36,10 @@ loop-number-init g c =
     let s0 : Relaxed = c.in_ok-search.search in
     let s : Relaxed = c.relax.new.self in
     let none : text_of c.in_ok-search.search.outputs 0 ≡ [] = ap (λ t. text_of t 0) c.in_ok-search.ensures.outputs in
-    let at : Gained s0 s 0 [] (IsEdge (At c.args.source.now.start c.args.start.now) 0 []) = subst (λ y. Gained c.in_ok-search.search c.relax.new.self 0 y (IsEdge (At c.args.source.now.start c.args.start.now) 0 [])) none (subst (λ q. Gained c.in_ok-search.search c.relax.new.self 0 (text_of c.in_ok-search.search.outputs 0) (IsEdge (At q c.args.start.now) 0 [])) c.start.ensures.value c.in_ok-relax.ensures) in
+    let at : Gained Every s0 s 0 [] (IsEdge (At c.args.source.now.start c.args.start.now) 0 []) = subst (λ y. Gained Every c.in_ok-search.search c.relax.new.self 0 y (IsEdge (At c.args.source.now.start c.args.start.now) 0 [])) none (subst (λ q. Gained Every c.in_ok-search.search c.relax.new.self 0 (text_of c.in_ok-search.search.outputs 0) (IsEdge (At q c.args.start.now) 0 [])) c.start.ensures.value c.in_ok-relax.ensures) in
     record {
       sound = c.start.ensures.sound;
-      runs = λ d h. runs_start c.args.source.now d c.start.ensures.sound (closed_of (g.X.Expander.cascades c.args.x.now) c.args.start.now (g.met.X.Expander.sound c.args.x.now c.requires.ready) d h) s0 s c.in_ok-search.ensures.nodes (subst (λ t. Gained c.in_ok-search.search c.relax.new.self 0 [] (IsEdge (At c.args.source.now.start t) 0 [])) h.first at) c.in_ok-search.ensures.marks;
+      runs = λ d h. runs_start c.args.source.now d c.start.ensures.sound (closed_of (g.X.Expander.cascades c.args.x.now) c.args.start.now (g.met.X.Expander.sound c.args.x.now c.requires.ready) d h) s0 s c.in_ok-search.ensures.nodes (subst (λ t. Gained Every c.in_ok-search.search c.relax.new.self 0 [] (IsEdge (At c.args.source.now.start t) 0 [])) h.first at) c.in_ok-search.ensures.marks;
       ready = c.requires.ready;
       on = g.met.X.Expander.on_self c.args.x.now;
     }
@@ -123,7 +124,7 @@ loop-number-preserved g c =
     let waits : mark_of c.loop-number.search.marks.items c.in-Some.number ≡ Waiting c.in-Waiting.way = get_or_default c.loop-number.search.marks.items c.in-Some.number Unmet c.index.result.now marked ∙ sym c.index.ensures ∙ c.in-Waiting.is in
     let at : slice_get c.loop-number.search.nodes c.in-Some.number ≡ Some (At c.in-At.state c.in-At.tuple) = c.node.ensures ∙ ap Some c.in-At.is in
     let same : g.X.Expander.cascades c.loop-number.x ≡ g.X.Expander.cascades c.args.x.now = g.met.X.Expander.on_stays c.args.x.now c.loop-number.x c.loop-number.invariant.on in
-    let gained : GainedFrom cascades t (with_done old rest k way) new way (λ d. Steps c.args.source.now d (At q t)) = subst (λ cs. GainedFrom cs c.in-At.tuple (with_done c.loop-number.search c.take.new.self c.in-Some.number c.in-Waiting.way) c.spread.new.search c.in-Waiting.way (λ d. Steps c.args.source.now d (At c.in-At.state c.in-At.tuple))) same c.in_ok-spread.ensures.gained in
+    let gained : GainedFrom c.args.source.now cascades t (with_done old rest k way) new way (λ d. Steps c.args.source.now d (At q t)) = subst (λ cs. GainedFrom c.args.source.now cs c.in-At.tuple (with_done c.loop-number.search c.take.new.self c.in-Some.number c.in-Waiting.way) c.spread.new.search c.in-Waiting.way (λ d. Steps c.args.source.now d (At c.in-At.state c.in-At.tuple))) same c.in_ok-spread.ensures.gained in
     record {
       sound = c.loop-number.invariant.sound;
       runs = λ d h.

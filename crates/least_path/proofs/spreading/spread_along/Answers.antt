@@ -1,24 +1,31 @@
-use Rattle.std.proofs.Common.{[], sym, subst}
+use Rattle.std.proofs.Common.{◌≡◌, [], sym, subst}
+use Rattle.std.specs.Prelude.{Contains}
 use Rattle.std.specs.List.Sorted.{IsPermutation}
 use Rattle.state_tuples.specs.Orders.{moves_on}
 use Rattle.least_path.specs.declared.node.Node.TheVariants.{At}
 use Rattle.least_path.specs.Texts.{text_of}
 use Rattle.least_path.specs.Keeps.{IsEdge}
 use Rattle.least_path.specs.Growths.{AlongArc, AlongMoves}
-use Rattle.least_path.proofs.Meeting.{gained_as, gained_growth}
+use Rattle.least_path.specs.Ending.{CanEnd}
+use Rattle.least_path.proofs.Meeting.{gained_as, gained_growth, gained_of}
 use Rattle.least_path.proofs.Along.{moves_as, along_zero, along_some}
 use Rattle.least_path.proofs.spreading.spread_along.Goals as goal
 
 pub returns-then-arc-eq0-clause-gained : goal.returns-then-arc-eq0-clause-gained
-returns-then-arc-eq0-clause-gained g c = λ d k h. gained_as c.args.search.now c.relax.new.self c.args.from.now.weight (text_of c.args.search.now.outputs c.args.from.now.output) (IsEdge (At c.args.arc.now.next c.args.tuple.now) 0 []) (AlongArc d c.args.tuple.now c.args.arc.now c.args.arc.now.input) c.in_ok-relax.ensures (along_zero d c.args.tuple.now c.args.arc.now c.args.arc.now.input c.if-arc-eq0.true)
+returns-then-arc-eq0-clause-gained g c = λ d k h.
+    let y = text_of c.args.search.now.outputs c.args.from.now.output in
+    gained_as (CanEnd c.args.source.now d) c.args.search.now c.relax.new.self c.args.from.now.weight y (IsEdge (At c.args.arc.now.next c.args.tuple.now) 0 []) (AlongArc d c.args.tuple.now c.args.arc.now c.args.arc.now.input) (gained_of (CanEnd c.args.source.now d) c.args.search.now c.relax.new.self c.args.from.now.weight y c.in_ok-relax.ensures) (along_zero d c.args.tuple.now c.args.arc.now c.args.arc.now.input c.if-arc-eq0.true)
 
 pub returns-clause-gained : goal.returns-clause-gained
 returns-clause-gained g c = λ d k h.
     let a = c.args.search.now in
-    let b = c.relax_all.new.self in
+    let b = c.spread_moves.new.search in
     let w = c.args.from.now.weight in
     let y = text_of c.args.search.now.outputs c.args.from.now.output in
     let t = c.args.tuple.now in
     let all = moves_on d c.args.tuple.now c.args.arc.now.input in
+    let counts = CanEnd c.args.source.now d in
+    let same : g.X.Expander.cascades c.arcs_on.new.self ≡ g.X.Expander.cascades c.args.x.now = g.met.X.Expander.on_stays c.args.x.now c.arcs_on.new.self c.in_ok-arcs_on.ensures.on in
     let moved : IsPermutation all c.deref.result.now = subst (IsPermutation (moves_on d c.args.tuple.now c.args.arc.now.input)) (sym c.deref.ensures.value) (c.in_ok-arcs_on.ensures.arcs d k h).same in
-    gained_as a b w y (AlongMoves c.args.arc.now.next t all) (AlongArc d t c.args.arc.now c.args.arc.now.input) (moves_as (gained_growth w y) a b c.args.arc.now.next t all c.deref.result.now moved c.in_ok-relax_all.ensures) (along_some d t c.args.arc.now c.args.arc.now.input c.if-arc-eq0.false)
+    let one = c.in_ok-spread_moves.ensures.gained d (subst (λ cs. Contains cs d) (sym same) k) h in
+    gained_as (CanEnd c.args.source.now d) a b w y (AlongMoves c.args.arc.now.next t all) (AlongArc d t c.args.arc.now c.args.arc.now.input) (moves_as (gained_growth (CanEnd c.args.source.now d) w y) a b c.args.arc.now.next t all c.deref.result.now moved one) (along_some d t c.args.arc.now c.args.arc.now.input c.if-arc-eq0.false)

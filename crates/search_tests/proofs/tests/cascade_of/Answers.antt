@@ -5,5 +5,5 @@ use Rattle.search_tests.proofs.tests.cascade_of.Goals as goal
 
 pub returns : goal.returns
 returns c =
-    let parts : c.new.result.parts ≡ c.args.rule ∷ [] = ap (λ (d : Cascaded). d.parts) c.new.ensures.value ∙ c.in_ok-push.ensures.items ∙ ap (λ ms. ms ++ c.args.rule ∷ []) c.new-parts.ensures.items in
-    one_writes c.args.rule c.new.result (first_tuple c.new.result) c.requires parts
+    let parts : c.in_ok-cascade.cascade.parts ≡ c.args.rule ∷ [] = ap (λ (d : Cascaded). d.parts) c.in_ok-cascade.ensures.value ∙ c.in_ok-push.ensures.items ∙ ap (λ ms. ms ++ c.args.rule ∷ []) c.new-parts.ensures.items in
+    one_writes c.args.rule c.in_ok-cascade.cascade (first_tuple c.in_ok-cascade.cascade) c.requires parts
