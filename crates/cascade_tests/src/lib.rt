@@ -1,0 +1,7 @@
+//! Tests of codes of expansions, and of callers that keep them in a shared table.
+#![tactic(auto)]
+
+#[cfg(test)]
+mod codes;
+#[cfg(test)]
+mod hands;

@@ -1,0 +1,10 @@
+pub mod Grammars
+pub mod RightCodes
+pub mod RightSizes
+pub mod Episodes
+pub mod Counts
+pub mod Tallies
+pub mod Callers
+pub mod Sweeps
+pub mod Hands
+pub mod HandLaws

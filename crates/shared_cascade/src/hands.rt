@@ -1,0 +1,89 @@
+// A caller as an expander.
+
+ghost use Rattle.std.specs.Prelude.{◌≡◌, OnOk, nat_eq};
+ghost use Rattle.std.specs.List.{filter};
+
+use crate::callers::Caller;
+use crate::shared::Shared;
+use crate::visits::Visit;
+use state_tuples::{Expander, Tuple, TupleArc, arcs_in, end_in};
+use std::alloc::AllocError;
+
+/// A caller at its table: an [`Expander`] of both cascades that keeps expansions there, and takes them from there.
+///
+/// Each call makes one look. Where it finds nothing, the expansion is made, and there is one attempt to publish it.
+#[derive(Drop)]
+pub struct Hand<'a> {
+    pub shared: &'a Shared,
+    pub caller: &'a mut Caller,
+}
+
+impl<'a> Expander for Hand<'a> {
+    ghost use Rattle.std.specs.Prelude.{◌≡◌, Some};
+    ghost use Rattle.shared_cascade.specs.Hands.{GivesUp, GoesOn};
+    ghost use Rattle.shared_cascade.specs.HandLaws.{on_again, on_self, on_stays, own_numbers, sound, up_stays};
+    ghost use Rattle.shared_cascade.specs.Callers.{IsReady, cascades_in, looks_of};
+
+    ghost cascades = { λ h. cascades_in h.shared.now };
+
+    ghost is_ready = { λ h. IsReady h.shared.now h.caller.now };
+
+    ghost goes_on = { GoesOn };
+
+    ghost gives_up = { GivesUp };
+
+    ghost calls = { λ h. Some (looks_of h.shared.now h.caller.now) };
+
+    fn arcs_on(
+        &mut self,
+        t: &Tuple,
+        label: u16,
+        into: &mut Vec<TupleArc>,
+    ) -> Result<(), AllocError> {
+        let put = match self.shared.visit(self.caller, t) {
+            Ok(Visit::Code(length)) => arcs_in(&self.caller.room[..length], label, into),
+            Ok(Visit::Arcs(_)) => put_readers(&self.caller.arcs, label, into),
+            Err(e) => Err(e),
+        };
+        if put.is_err() {
+            into.clear();
+        }
+        put
+    }
+
+    fn finality(&mut self, t: &Tuple) -> Result<Option<u64>, AllocError> {
+        match self.shared.visit(self.caller, t)? {
+            Visit::Code(length) => Ok(end_in(&self.caller.room[..length])),
+            Visit::Arcs(finality) => Ok(finality),
+        }
+    }
+
+    fn may_read(&self, t: &Tuple, label: u16) -> bool {
+        self.shared.cascade_of(t).may_read(t, label)
+    }
+
+    ghost sound = { sound };
+
+    ghost own_numbers = { own_numbers };
+
+    ghost on_stays = { on_stays };
+
+    ghost up_stays = { up_stays };
+
+    ghost on_self = { on_self };
+
+    ghost on_again = { on_again };
+}
+
+/// Puts those that read the label into `into`, in order, in place of what is there.
+fn put_readers(arcs: &[TupleArc], label: u16, into: &mut Vec<TupleArc>) -> Result<(), AllocError>
+    ensures { OnOk result (into.new.items ≡ filter (λ a. nat_eq a.input label) arcs.now) }
+{
+    into.clear();
+    for arc in arcs {
+        if arc.input == label {
+            into.push(*arc)?;
+        }
+    }
+    Ok(())
+}
