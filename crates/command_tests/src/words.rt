@@ -5,7 +5,7 @@ use std::alloc::{AllocError, Global};
 use std::test::Fail;
 
 // The words after the program's name, and what they ask for.
-const ROWS: [(&[&str], &str); 52] = [
+const ROWS: [(&[&str], &str); 59] = [
     // Each option given, missing, repeated, without its value and misspelt.
     (&["--setup", "s"], "speak s"),
     (&[], "refused"),
@@ -15,6 +15,9 @@ const ROWS: [(&[&str], &str); 52] = [
     (&["--setp", "s"], "refused"),
     (&["--set", "s"], "refused"),
     (&["-setup", "s"], "refused"),
+    (&["--setup", "s", "--mod", "check"], "refused"),
+    (&["--mode", "sample", "--counts", "7"], "refused"),
+    (&["--mode", "sample", "--Start", "7"], "refused"),
     (&["--setup", "s", "--mode", "speak"], "speak s"),
     (&["--mode", "classify", "--setup", "s"], "classify s"),
     (&["--setup", "s", "--mode", "check"], "check s"),
@@ -75,6 +78,10 @@ const ROWS: [(&[&str], &str); 52] = [
     (&["--setup=a=b"], "speak a=b"),
     (&["--setup", ""], "speak "),
     (&["--setup", "s", "--mode="], "refused"),
+    (&["--mode=sample", "--count="], "refused"),
+    (&["--mode=sample", "--start="], "refused"),
+    (&["--mode=sample", "--count=100001"], "refused"),
+    (&["--mode=sample", "--start=2147483648"], "refused"),
     // Words that are no options.
     (&["--setup", "s", "--"], "speak s"),
     (&["--", "--setup", "s"], "refused"),

@@ -53,3 +53,11 @@ line x =
     let more = draw 4 x in
     let all = pieces (more.value + 1) more.state in
     record { value = join_with_byte 32 all.value; state = all.state }
+
+-- n lines, each going on from the state of the one before
+unfoldable pub sampled : ℕ → ℕ → Drawn (List (List ℕ))
+sampled zero x = record { value = []; state = x }
+sampled (suc n) x =
+    let before = sampled n x in
+    let last = line before.state in
+    record { value = before.value ++ (last.value ∷ []); state = last.state }

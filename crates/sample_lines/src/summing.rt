@@ -73,6 +73,13 @@ impl Summary {
         Ok(())
     }
 
+    /// How many lines were refused.
+    pub fn refused(&self) -> u64
+        ensures { result ≡ self.now.refused }
+    {
+        self.refused
+    }
+
     /// The summary's seven lines.
     pub fn text(&self, alloc: Global) -> Result<Vec<u8>, AllocError>
         ensures { IfOk result (λ text. text.items ≡ summary_text self.now) }

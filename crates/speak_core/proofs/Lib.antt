@@ -1,6 +1,7 @@
 pub mod Said
 pub mod Tellings
 pub mod SoFar
+pub mod Sums
 pub mod Named
 pub mod Found
 pub mod RuleLines

@@ -13,15 +13,19 @@ use Rattle.weighted_relations.specs.RelationLaws.{same_sym}
 use Rattle.weighted_relations.specs.Relations.{Relation, Same}
 use Rattle.speak_core.specs.Answers.{AllSaid, all_read, fault_text, is_read, told, words_text, written}
 use Rattle.speak_core.specs.Loaded.{SaySame, SaysOnce}
-use Rattle.speak_core.specs.Parts.{Speaks}
+use Rattle.speak_core.specs.Parts.{Speaks, says_of}
 use Rattle.speak_core.specs.Plans.{says_in}
 use Rattle.speak_core.specs.declared.requests.Mode.{Mode}
 use Rattle.speak_core.specs.declared.requests.Mode.TheVariants.{Classify, Speak}
+use Rattle.speak_core.specs.declared.speakers.Speaker.{Speaker}
 
 -- a line says one thing
 pub says_once : (mode : Mode) (C V : Relation) → SaysOnce (says_in mode C V)
 says_once Classify C V line a b p q = classified_once line C a b p q
 says_once Speak C V line a b p q = words_once C V line a b p q
+
+pub speaker_once : (s : Speaker) → SaysOnce (says_of s)
+speaker_once s = says_once s.mode _ _
 
 -- relations with the same readings say the same
 pub says_alike : (mode : Mode) (C D V W : Relation) → Same C D → Same V W → SaySame (says_in mode C V) (says_in mode D W)

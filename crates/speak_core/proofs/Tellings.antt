@@ -59,7 +59,7 @@ answers_few P lines all whole a =
     omega (arith, count, both, n, m)
 
 module _ (answers : List (Result Spoken LineFault)) (i : ℕ) (answer : Result Spoken LineFault) (within : i < length answers) (there : answer ≡ get_or answers i answer) where
-  front_more : take (i + 1) (map answer_of answers) ≡ take i (map answer_of answers) ++ answer_of answer ∷ []
+  pub front_more : take (i + 1) (map answer_of answers) ≡ take i (map answer_of answers) ++ answer_of answer ∷ []
   front_more =
       let inside : i < length (map answer_of answers) = subst (λ n. i < n) (sym (length-map answers answer_of)) within in
       let at : answer_of answer ≡ get_or (map answer_of answers) i (answer_of answer) = ap answer_of there ∙ sym (get_or-map answer_of answers i answer (answer_of answer) within) in

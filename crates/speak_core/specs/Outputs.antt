@@ -1,9 +1,8 @@
 -- What a job writes to its output: the words of each line, the sizes of rules, or the summary of a sample.
-use Rattle.std.specs.Prelude.{ℕ, ◌+◌, zero, suc, List, [], ◌∷◌, ◌++◌, Ok, Err, Some, None, Bool, true, false, codes, map}
+use Rattle.std.specs.Prelude.{ℕ, List, [], ◌∷◌, ◌++◌, Ok, Err, Some, None, Bool, true, false, codes, map}
 use Rattle.std.specs.Fmt.{decimal}
 use Rattle.normaliser.specs.Lines.{Answer}
-use Rattle.sample_lines.specs.Draws.{Drawn}
-use Rattle.sample_lines.specs.Lines.{line}
+use Rattle.sample_lines.specs.Lines.{sampled}
 use Rattle.sample_lines.specs.Summary.{Said, summary_text, totals_of}
 use Rattle.speak_setup.specs.Setups.{SetupNames}
 use Rattle.speak_words.specs.Asked.{Job, check, classify, sample, speak}
@@ -12,14 +11,7 @@ use Rattle.weighted_relations.specs.Expressions.{Expression, size}
 use Rattle.speak_core.specs.Answers.{written}
 use Rattle.speak_core.specs.Plans.{Plan}
 
--- so many lines of the sample from a state on, each going on from the state of the one before
-unfoldable pub sampled : ℕ → ℕ → Drawn (List (List ℕ))
-sampled zero x = record { value = []; state = x }
-sampled (suc n) x =
-    let before = sampled n x in
-    let last = line before.state in
-    record { value = before.value ++ (last.value ∷ []); state = last.state }
-
+-- so many lines of the sample, from a state on
 abbrev pub sample_lines : ℕ → ℕ → List (List ℕ)
 sample_lines count start = (sampled count start).value
 

@@ -6,7 +6,9 @@ use Rattle.normaliser.specs.Lines.{Answer, Saying}
 use Rattle.normaliser.specs.Loads.{classifier_of, verbaliser_of}
 use Rattle.normaliser.specs.declared.faults.LineFault.{LineFault}
 use Rattle.normaliser.specs.declared.normalisers.Spoken.{Spoken}
+use Rattle.sample_lines.specs.Summary.{Said, Totals, totals_of}
 use Rattle.speak_core.specs.Answers.{AllSaid, written, told, all_read}
+use Rattle.speak_core.specs.Outputs.{said_of}
 use Rattle.speak_core.specs.Plans.{says_in}
 use Rattle.speak_core.specs.declared.speakers.Speaker.{Speaker}
 use Rattle.text_lines.specs.Lines.{lines}
@@ -63,3 +65,10 @@ pub record Writes (says : Saying) (all : List (List ℕ)) (text : List Answer �
   pub output : Appends out out' (text answers)
   pub faults : Appends err err' (told 1 answers)
   pub read : was_read ≡ all_read answers
+
+-- What each line says was added to the totals of lines before, and each refused line's fault was written, numbered on from this number.
+pub record SumsUp (says : Saying) (first : ℕ) (all : List (List ℕ)) (old new : Totals) (err err' : Option (List ℕ)) : Type 0 where
+  pub answers : List Answer
+  pub said : AllSaid says all answers
+  pub added : (before : List Said) → old ≡ totals_of before → new ≡ totals_of (before ++ map said_of answers)
+  pub faults : Appends err err' (told first answers)

@@ -10,7 +10,7 @@ use std::alloc::{AllocError, Global};
 use text_lines::first_line;
 
 /// How many lines a batch may have.
-const MOST_LINES: usize = 1024;
+pub(crate) const MOST_LINES: usize = 1024;
 
 /// Lines of a text that are handled together.
 #[derive(Drop)]

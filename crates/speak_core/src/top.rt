@@ -37,12 +37,10 @@ use std::thread::Threads;
 /// text, a record with more than 10 fields in any order, or a token without words. An empty line says nothing and isn't refused.
 ///
 /// In mode check `out` gets a line for each rule with the size of its expression. In mode sample it gets the summary of what the lines
-/// say, and `err` their faults as in mode speak.
+/// say, once all of them are spoken, and `err` their faults as in mode speak.
 ///
 /// Status 0: each line was read, or the rules were checked. 1: some line is refused. 2: the words are wrong. 3: the setup, a grammar or a rule is
 /// refused. 4: a device failed, in place of 3 the shelf. 5: memory is wanting. 6: the input is too long. From 2 on, the cause is told to `err` last.
-///
-/// Modes check and sample aren't written yet: after all is built they end with status 5.
 ///
 /// The watch isn't told of any line yet.
 pub fn speak<R: Threads + Sync, H: Shelf, S: Source, O: Sink, E: Sink, W: Watch + Sync>(

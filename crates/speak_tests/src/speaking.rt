@@ -843,7 +843,7 @@ fn the_first_fault_of_a_line_is_told(rt: HostRuntime) -> Result<(), Fail> {
 }
 
 // Words, the calls of the shelf, the source, the output and the errors that fail, the output, the errors, the status.
-const RUNS: [(&[&str], [&[u64]; 4], &[u8], &[u8], u8); 25] = [
+const RUNS: [(&[&str], [&[u64]; 4], &[u8], &[u8], u8); 29] = [
     (&[], [&[]; 4], b"", b"bad arguments\n", 2),
     (&["speak"], [&[]; 4], b"", b"bad arguments\n", 2),
     (
@@ -967,7 +967,23 @@ const RUNS: [(&[&str], [&[u64]; 4], &[u8], &[u8], u8); 25] = [
     ),
     (&CLASSIFY, [&[], &[], &[], &[1, 3]], b"b\n\n", b"outsi", 4),
     (&CLASSIFY, [&[], &[], &[4], &[1, 2]], b"b\n\n", b"", 4),
+    // a sample calls neither the shelf nor the source, and is the same at each run
+    (&SAMPLE, [&[1, 2, 3], &[1, 2], &[], &[]], SUMMARY, b"", 0),
+    (&SAMPLE, [&[], &[], &[], &[1]], SUMMARY, b"", 0),
+    (&SAMPLE, [&[], &[], &[3], &[]], b"li", b"outside fault\n", 4),
+    (
+        &["speak", "--count=1", "--mode=sample", "--start=0"],
+        [&[1], &[1], &[], &[]],
+        b"lines 1\nspoken 1\nrefused 0\nbytes 13\nsum 1221\nfirst eighty eight\nlast eighty eight\n",
+        b"",
+        0,
+    ),
 ];
+
+const SAMPLE: [&str; 5] = ["speak", "--mode", "sample", "--count", "2"];
+
+const SUMMARY: &[u8] = b"lines 2\nspoken 2\nrefused 0\nbytes 56\nsum 5408\nfirst dogs
+last rain eighty six january twenty seventh twenty five\n";
 
 #[test]
 fn runs_end_with_their_status(rt: HostRuntime) -> Result<(), Fail> {
