@@ -11,7 +11,8 @@ use std::alloc::AllocError;
 
 /// A caller at its table: an [`Expander`] of both cascades that keeps expansions there, and takes them from there.
 ///
-/// Each call makes one look. Where it finds nothing, the expansion is made, and there is one attempt to publish it.
+/// Each call makes one look. Where it finds nothing, the expansion is made, and there is one attempt to publish it. Beside what every expander owes,
+/// the clauses say that a call adds one episode to the log, for the key of its tuple; where memory is wanting it may be a look alone.
 #[derive(Drop)]
 pub struct Hand<'a> {
     pub shared: &'a Shared,
@@ -19,10 +20,13 @@ pub struct Hand<'a> {
 }
 
 impl<'a> Expander for Hand<'a> {
-    ghost use Rattle.std.specs.Prelude.{◌≡◌, Some};
+    ghost use Rattle.std.specs.Prelude.{◌≡◌, ◌≤◌, ◌⊎◌, IfOk, OnErr, OnOk, Some, []};
+    ghost use Rattle.state_tuples.specs.Calls.{AreArcsOn, IsCounted, IsEndOf, IsKnown};
+    ghost use Rattle.state_tuples.specs.Codes.{key};
+    ghost use Rattle.shared_cascade.specs.Episodes.{Episode, Missed};
     ghost use Rattle.shared_cascade.specs.Hands.{GivesUp, GoesOn};
     ghost use Rattle.shared_cascade.specs.HandLaws.{on_again, on_self, on_stays, own_numbers, sound, up_stays};
-    ghost use Rattle.shared_cascade.specs.Callers.{IsReady, cascades_in, looks_of};
+    ghost use Rattle.shared_cascade.specs.Callers.{Adds, IsReady, cascades_in, looks_of, places_in};
 
     ghost cascades = { λ h. cascades_in h.shared.now };
 
@@ -34,12 +38,19 @@ impl<'a> Expander for Hand<'a> {
 
     ghost calls = { λ h. Some (looks_of h.shared.now h.caller.now) };
 
-    fn arcs_on(
-        &mut self,
-        t: &Tuple,
-        label: u16,
-        into: &mut Vec<TupleArc>,
-    ) -> Result<(), AllocError> {
+    fn arcs_on(&mut self, t: &Tuple, label: u16, into: &mut Vec<TupleArc>) -> Result<(), AllocError>
+        requires ready { IsReady self.old.shared.now self.old.caller.now }
+        requires known { IsKnown (cascades_in self.old.shared.now) t.now }
+        requires label { label ≤ 257 }
+        ensures arcs { OnOk result (AreArcsOn (cascades_in self.old.shared.now) t.now label into.new.items) }
+        ensures none { OnErr result (into.new.items ≡ []) }
+        ensures ready { IsReady self.new.shared.now self.new.caller.now }
+        ensures on { OnOk result (GoesOn self.old self.new) }
+        ensures up { OnErr result (GivesUp self.old self.new) }
+        ensures counted { IsCounted (Some (looks_of self.old.shared.now self.old.caller.now)) (Some (looks_of self.new.shared.now self.new.caller.now)) }
+        ensures episode { OnOk result (Adds self.old.caller.now self.new.caller.now (Episode (cascades_in self.old.shared.now) (places_in self.old.shared.now) (key t.now))) }
+        ensures refused { OnErr result (Adds self.old.caller.now self.new.caller.now (λ o es. Episode (cascades_in self.old.shared.now) (places_in self.old.shared.now) (key t.now) o es ⊎ Missed (places_in self.old.shared.now) (key t.now) es)) }
+    {
         let put = match self.shared.visit(self.caller, t) {
             Ok(Visit::Code(length)) => arcs_in(&self.caller.room[..length], label, into),
             Ok(Visit::Arcs(_)) => put_readers(&self.caller.arcs, label, into),
@@ -51,7 +62,17 @@ impl<'a> Expander for Hand<'a> {
         put
     }
 
-    fn finality(&mut self, t: &Tuple) -> Result<Option<u64>, AllocError> {
+    fn finality(&mut self, t: &Tuple) -> Result<Option<u64>, AllocError>
+        requires ready { IsReady self.old.shared.now self.old.caller.now }
+        requires known { IsKnown (cascades_in self.old.shared.now) t.now }
+        ensures end { IfOk result (IsEndOf (cascades_in self.old.shared.now) t.now) }
+        ensures ready { IsReady self.new.shared.now self.new.caller.now }
+        ensures on { OnOk result (GoesOn self.old self.new) }
+        ensures up { OnErr result (GivesUp self.old self.new) }
+        ensures counted { IsCounted (Some (looks_of self.old.shared.now self.old.caller.now)) (Some (looks_of self.new.shared.now self.new.caller.now)) }
+        ensures episode { OnOk result (Adds self.old.caller.now self.new.caller.now (Episode (cascades_in self.old.shared.now) (places_in self.old.shared.now) (key t.now))) }
+        ensures refused { OnErr result (Adds self.old.caller.now self.new.caller.now (λ o es. Missed (places_in self.old.shared.now) (key t.now) es)) }
+    {
         match self.shared.visit(self.caller, t)? {
             Visit::Code(length) => Ok(end_in(&self.caller.room[..length])),
             Visit::Arcs(finality) => Ok(finality),

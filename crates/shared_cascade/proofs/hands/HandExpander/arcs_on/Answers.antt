@@ -1,5 +1,5 @@
 use Rattle.std.specs.Prelude.{filter, nat_eq, take}
-use Rattle.std.proofs.Common.{refl, sym, ◌∙◌, ap, subst}
+use Rattle.std.proofs.Common.{refl, sym, ◌∙◌, ap, subst, inl, inr}
 use Rattle.state_tuples.specs.Cascades.{end_of}
 use Rattle.state_tuples.specs.Codes.{IsExpansionCode, key}
 use Rattle.shared_cascade.specs.Callers.{Visited, grammars_of}
@@ -51,3 +51,17 @@ returns-else-is_err-clause-arcs c =
           w.put_readers-put.ensures
       | in-Err w ↦ no_value _ c.match-visit.put _ w.put-is
     ]
+
+pub returns-else-is_err-clause-episode : goal.returns-else-is_err-clause-episode
+returns-else-is_err-clause-episode c = elim c.match-visit.branch [
+  | in-Ok-Code w ↦ on_any_value c.match-visit.put w.in-Ok-Code.ensures.episode
+  | in-Ok-Arcs w ↦ on_any_value c.match-visit.put w.in-Ok-Arcs.ensures.episode
+  | in-Err w ↦ no_value _ c.match-visit.put _ w.put-is
+]
+
+pub returns-then-is_err-clause-refused : goal.returns-then-is_err-clause-refused
+returns-then-is_err-clause-refused c = on_any_error c.match-visit.put (elim c.match-visit.branch [
+  | in-Ok-Code w ↦ (let e = w.in-Ok-Code.ensures.episode in (e.0, e.1, inl e.2, e.3, e.4))
+  | in-Ok-Arcs w ↦ (let e = w.in-Ok-Arcs.ensures.episode in (e.0, e.1, inl e.2, e.3, e.4))
+  | in-Err w ↦ (let e = w.in-Err.ensures.missed in (e.0, e.1, inr e.2, e.3, e.4))
+])

@@ -31,3 +31,6 @@ returns-in-Code-clause-on c = goes_on c.args.self.now _ (key c.args.t.now) (reco
 
 pub returns-in-Arcs-clause-on : goal.returns-in-Arcs-clause-on
 returns-in-Arcs-clause-on c = goes_on c.args.self.now _ (key c.args.t.now) (record { shared = refl; caller = refl }) c.in_ok-length.ensures.episode
+
+pub returns-in_err-length-clause-refused : goal.returns-in_err-length-clause-refused
+returns-in_err-length-clause-refused c = on_any_error c.from_residual.result c.in_err-length.ensures.missed
