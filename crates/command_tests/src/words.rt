@@ -1,11 +1,11 @@
 //! What the words ask for.
 
-use speak_words::{Asked, Mode, read_words};
+use speak_words::{Asked, Mode, Settings, read_words};
 use std::alloc::{AllocError, Global};
 use std::test::Fail;
 
 // The words after the program's name, and what they ask for.
-const ROWS: [(&[&str], &str); 59] = [
+const ROWS: [(&[&str], &str); 72] = [
     // Each option given, missing, repeated, without its value and misspelt.
     (&["--setup", "s"], "speak s"),
     (&[], "refused"),
@@ -72,6 +72,29 @@ const ROWS: [(&[&str], &str); 59] = [
     (&["--mode", "sample", "--count", "-3"], "refused"),
     (&["--mode", "sample", "--count", "three"], "refused"),
     (&["--mode", "sample", "--count", ""], "refused"),
+    // How it is done.
+    (&["--setup", "s", "--places", "0"], "refused"),
+    (&["--setup", "s", "--places", "1"], "speak s, 1 places"),
+    (
+        &["--setup", "s", "--places", "4096"],
+        "speak s, 4096 places",
+    ),
+    (&["--setup", "s", "--places", "256"], "speak s"),
+    (&["--setup", "s", "--places", "4097"], "refused"),
+    (&["--setup", "s", "--places"], "refused"),
+    (
+        &["--setup", "s", "--places", "7", "--places", "7"],
+        "refused",
+    ),
+    (&["--setup", "s", "--places=seven"], "refused"),
+    (&["--setup", "s", "--report"], "speak s, with a report"),
+    (
+        &["--report", "--mode=sample"],
+        "sample 1000 1, with a report",
+    ),
+    (&["--setup", "s", "--report", "--report"], "refused"),
+    (&["--setup", "s", "--report=true"], "refused"),
+    (&["--setup", "s", "--report", "true"], "refused"),
     // With `=`, and empty values.
     (&["--mode=sample", "--count=3", "--start=4"], "sample 3 4"),
     (&["--setup=s"], "speak s"),
@@ -105,12 +128,20 @@ fn told(alloc: Global, asked: Option<Asked<'_>>) -> Result<String, AllocError> {
     let Some(asked) = asked else {
         return String::from_str(alloc, "refused");
     };
-    match asked.mode {
+    let mut text = match asked.mode {
         Mode::Speak { setup } => format!(in alloc; "speak {setup}"),
         Mode::Classify { setup } => format!(in alloc; "classify {setup}"),
         Mode::Check { setup } => format!(in alloc; "check {setup}"),
         Mode::Sample { count, start } => format!(in alloc; "sample {count} {start}"),
+    }?;
+    let Settings { places, report } = asked.settings;
+    if places != 256 {
+        text.push_str(&format!(in alloc; ", {places} places")?)?;
     }
+    if report {
+        text.push_str(", with a report")?;
+    }
+    Ok(text)
 }
 
 #[test]

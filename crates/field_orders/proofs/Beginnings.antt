@@ -6,13 +6,15 @@ use Rattle.std.proofs.lemmas.List.{append-nil, drop_more}
 use Rattle.std.proofs.lemmas.List.Elements.{All-nil, All-push}
 use Rattle.weighted_relations.specs.Graphs.{GraphReads}
 use Rattle.weighted_relations.specs.Relations.{Same}
+use Rattle.state_table.specs.Numbers.{Distinct, Numbers}
+use Rattle.state_table.proofs.Numbering.{numbers_only}
 use Rattle.token_record.specs.Fields.{no_fields, chain, field_of, fields_of}
 use Rattle.token_record.specs.declared.tokens.Record.{Record}
 use Rattle.field_orders.specs.declared.states.State.{State}
-use Rattle.field_orders.specs.declared.states.State.TheVariants.{End, Byte, Text, Fields as SomeFields}
+use Rattle.field_orders.specs.declared.states.State.TheVariants.{End}
 use Rattle.field_orders.specs.Orders.{OrdersOf, IsOrderable, Joining}
 use Rattle.field_orders.specs.Remainders.{Written, Rest, nothing, bytes_then, fields_then, field_at, unwritten, final_at, writing, IsWritten, AreWritten}
-use Rattle.field_orders.specs.Sources.{Entry, end, Means, at_end, at_byte, at_text, at_fields, AllMean, Grew, Makes, Numbered, IsSource, entry_of}
+use Rattle.field_orders.specs.Sources.{Means, at_end, at_byte, at_text, at_fields, AllMean, Grew, Makes, IsSource}
 use Rattle.field_orders.specs.Tables.{Stands, Grown, NumbersOf, Added}
 use Rattle.field_orders.specs.Tables as tables
 use Rattle.field_orders.proofs.Numbering.{added_grown, added_at, added_within, widened}
@@ -99,28 +101,22 @@ begun_reads r t root b x y w =
     )
 
 -- the one state of a table where nothing is left
-pub end_means : (t : List Written) (old new : List Entry) (k : ℕ) → old ≡ [] → Numbered old new end k → AllMean t new
-end_means t old new k e h j l = elim (h.only j (get_or new j end) (slice_get-get_or new j end l)) [
-  | inl o ↦ absurd (let z : None ≡ Some (get_or new j end) = ap (λ v. slice_get v j) (sym e) ∙ o in cc)
-  | inr o ↦ (nothing, at_end (slice_get-get_or new j end l ∙ ap Some o))
+pub end_means : (t : List Written) (old new : List State) (k : ℕ) → old ≡ [] → Distinct new → Numbers old new End k → AllMean t new
+end_means t old new k e d h j l = elim (numbers_only h d j (get_or new j End) (slice_get-get_or new j End l)) [
+  | inl o ↦ absurd (let z : None ≡ Some (get_or new j End) = ap (λ v. slice_get v j) (sym e) ∙ o in cc)
+  | inr o ↦ (nothing, at_end (slice_get-get_or new j End l ∙ ap Some o.0))
 ]
 
-pub source_begun : (t : List Written) (keep : Bool) (s0 s1 s2 : List Entry) (first start root : ℕ) → AreWritten t → s0 ≡ [] → Numbered s0 s1 end first
+pub source_begun : (t : List Written) (keep : Bool) (s0 s1 s2 : List State) (first start root : ℕ) → AreWritten t → s0 ≡ [] → Distinct s1 → Numbers s0 s1 End first
     → Makes t s1 s2 first start (λ r. bytes_then (field_at t root).text (fields_then (field_at t root).inner r)) → IsSource (record { table = t; keep = keep; states = s2; start = start; root = root })
-source_begun t keep s0 s1 s2 first start root w e h m = record { written = w; meant = m.grew.meant (end_means t s0 s1 first e h); first = m.means nothing (at_end h.at) }
+source_begun t keep s0 s1 s2 first start root w e d h m = record { written = w; meant = m.grew.meant (end_means t s0 s1 first e d h); first = m.means nothing (at_end h.stored) }
 
-pub source_grew : (t : List Written) (keep : Bool) (s u : List Entry) (start root : ℕ) → IsSource (record { table = t; keep = keep; states = s; start = start; root = root }) → Grew t s u → IsSource (record { table = t; keep = keep; states = u; start = start; root = root })
+pub source_grew : (t : List Written) (keep : Bool) (s u : List State) (start root : ℕ) → IsSource (record { table = t; keep = keep; states = s; start = start; root = root }) → Grew t s u → IsSource (record { table = t; keep = keep; states = u; start = start; root = root })
 source_grew t keep s u start root h g = record { written = h.written; meant = g.meant h.meant; first = means_kept t s u g.keeps h.first }
 
-is_end : (e : State) → entry_of e ≡ end → e ≡ End
-is_end End h = refl
-is_end (Byte b n) h = absurd (cc)
-is_end (Text p i n) h = absurd (cc)
-is_end (SomeFields ks n) h = absurd (cc)
-
 -- another state is not final
-pub not_final : (t : List Written) (s : List Entry) (k : ℕ) (e : State) {r : Rest} → (e ≡ End → ⊥) → slice_get s k ≡ Some (entry_of e) → Means t s k r → final_at r ≡ None
-not_final t s k e n h (at_end f) = absurd (n (is_end e (let g : Some (entry_of e) ≡ Some end = sym h ∙ f in cc)))
+pub not_final : (t : List Written) (s : List State) (k : ℕ) (e : State) {r : Rest} → (e ≡ End → ⊥) → slice_get s k ≡ Some e → Means t s k r → final_at r ≡ None
+not_final t s k e n h (at_end f) = absurd (n (let g : Some e ≡ Some End = sym h ∙ f in cc))
 not_final t s k e n h (at_byte f m) = refl
 not_final t s k e n h (at_text {p} {i} {r} f a b m) = subst (λ z. final_at (bytes_then z r) ≡ None) (sym (drop_more (field_at t p).text i 0 b)) refl
 not_final t s k e n h (at_fields f a m) = refl

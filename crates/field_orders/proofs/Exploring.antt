@@ -14,14 +14,17 @@ use Rattle.fst_core.specs.Top.{top_of}
 use Rattle.fst_core.proofs.Building.{last_or_before}
 use Rattle.fst_core.proofs.Fits.{no_arc, no_end}
 use Rattle.fst_core.proofs.Tops.{built_top}
+use Rattle.state_table.specs.Numbers.{Keeps}
+use Rattle.state_table.proofs.Numbering.{kept_within}
+use Rattle.field_orders.specs.declared.states.State.{State}
 use Rattle.field_orders.specs.Remainders.{Written, Rest, nothing, byte, fields, bytes_then, field_at, arc_at, arc_count, final_at}
-use Rattle.field_orders.specs.Sources.{Entry, end, Means, at_end, at_byte, at_text, at_fields, ArcSays, RowSays, Source, IsSource, IsMore, IsState, HasArcs, graph_of, whole, Keeps}
+use Rattle.field_orders.specs.Sources.{Means, at_end, at_byte, at_text, at_fields, ArcSays, RowSays, Source, IsSource, IsMore, IsState, HasArcs, graph_of, whole}
 use Rattle.field_orders.proofs.Writings.{arc_of, is_arc}
 use Rattle.field_orders.proofs.Rows.{means_end, means_byte, means_text, means_fields, means_within, arc_kept}
 use Rattle.field_orders.proofs.Stating.{means_kept}
 
 -- a state stands for one node
-pub means_one : (t : List Written) (s : List Entry) (k : ℕ) {r u : Rest} → Means t s k r → Means t s k u → u ≡ r
+pub means_one : (t : List Written) (s : List State) (k : ℕ) {r u : Rest} → Means t s k r → Means t s k u → u ≡ r
 means_one t s k (at_end f) m = means_end t s k f m
 means_one t s k (at_byte {b} {n} f h) m = let q = means_byte t s k b n f m in q.1 ∙ ap (byte b) (means_one t s n h q.2)
 means_one t s k (at_text {p} {i} {n} f a b h) m = let q = means_text t s k p i n f m in q.is ∙ ap (λ z. bytes_then (drop i (field_at t p).text) z) (means_one t s n h q.means)
@@ -37,7 +40,7 @@ pub record Explored (s : Source) (b : States) : Type 0 where
 pub explored_none : (s : Source) (b : States) → b ≡ no_states → Explored s b
 explored_none s b e = subst (Explored s) (sym e) (record { even = refl; few = omega arith; rows = λ k r l m. absurd (omega (arith, l)); ends = λ k r l m. absurd (omega (arith, l)) })
 
-row_kept : (t : List Written) (keep : Bool) (old new : List Entry) (row : List Arc) (r : Rest) → Keeps old new → RowSays t keep old row r → RowSays t keep new row r
+row_kept : (t : List Written) (keep : Bool) (old new : List State) (row : List Arc) (r : Rest) → Keeps old new → RowSays t keep old row r → RowSays t keep new row r
 row_kept t keep old new row r k h = record { count = h.count; each = λ j a e. arc_kept t old new a (arc_at t r j) k (h.each j a e) }
 
 -- one more state
@@ -45,7 +48,7 @@ pub explored_more : (old new : Source) (b c : States) (row : List Arc) (last : O
     → HasArcs old new (length b.arcs) row → ((r : Rest) → IsState new (length b.arcs) r → final_at r ≡ last) → Explored new c
 explored_more old new b c row last source more h l same arcs ends = subst (Explored new) (sym same) (subst (λ z. Explored z (with_state b row last)) (sym more.is) (record {
   even = length-append b.finals (last ∷ []) ∙ ap (λ z. z + 1) h.even ∙ sym (length-append b.arcs (row ∷ []));
-  few = (let q = length-append b.arcs (row ∷ []) in let v : length b.arcs < length new.states = grown (length b.arcs) l in omega (arith, q, v));
+  few = (let q = length-append b.arcs (row ∷ []) in let v : length b.arcs < length new.states = kept_within more.keeps (length b.arcs) l in omega (arith, q, v));
   rows = λ k r m i.
       let was : IsState old k r = back k r m i in
       elim (last_or_before b.arcs row [] k (let q = length-append b.arcs (row ∷ []) in omega (arith, q, m))) [
@@ -58,9 +61,6 @@ explored_more old new b c row last source more h l same arcs ends = subst (Explo
         | inr q ↦ q.1 ∙ sym (ends r (subst (λ z. IsState new z r) (q.0 ∙ h.even) (there k r i)))
       ];
 })) where
-  grown : (k : ℕ) → k < length old.states → k < length new.states
-  grown k m = slice_get_within new.states k _ (more.keeps k _ (slice_get-get_or old.states k end m))
-
   there : (k : ℕ) (r : Rest) → Means old.table new.states k r → IsState new k r
   there k r i = subst (λ z. Means z new.states k r) (sym (ap (λ (z : Source). z.table) more.is)) i
 
@@ -158,7 +158,7 @@ module _ (s : Source) (b : States) (source : IsSource s) (h : Explored s b) (all
   explored_reads m e = subst (λ z. Same (Reads z) (GraphReads (graph_of s))) (sym e) (λ x y w. (λ g. (g.0, up (whole s) g.1 source.first), λ g. (g.0, down s.start g.1 source.first)))
 
 pub more_within : (old new : Source) (k : ℕ) → IsMore old new → k < length old.states → k < length new.states
-more_within old new k more l = slice_get_within new.states k _ (more.keeps k _ (slice_get-get_or old.states k end l))
+more_within old new k more l = kept_within more.keeps k l
 
 pub row_within : (s : Source) (k : ℕ) (row : List Arc) (u : Source) → IsSource s → k < length s.states → HasArcs s u k row → (j : ℕ) (d : Arc) → j < length row → (get_or row j d).next < length u.states
 row_within s k row u source l h j d m =

@@ -1,8 +1,9 @@
 -- Fields that are put into a table.
-use Rattle.std.proofs.Common.{◌≡◌, ◌∙◌, ◌⊎◌, inl, inr, sym, ap, subst, refl, arith, ℕ, zero, suc, ◌+◌, ◌≤◌, ◌<◌, List, [], ◌∷◌, ◌++◌, length, map, Some, None, get_or, append_assoc, length-append, Bool, true, false, if◌then◌else◌, take, Vec, Global}
+use Rattle.std.proofs.Common.{◌≡◌, ◌∙◌, inl, inr, sym, ap, subst, refl, arith, ℕ, zero, suc, ◌+◌, ◌≤◌, ◌<◌, List, [], ◌∷◌, ◌++◌, length, map, Some, get_or, append_assoc, length-append, Bool, true, false, if◌then◌else◌, take, Vec, Global}
 use Rattle.std.specs.Prelude.{slice_get, All}
 use Rattle.std.proofs.lemmas.List.{take_more, append-nil}
 use Rattle.std.proofs.lemmas.List.Elements.{All-nil, All-cons, All-head, All-tail, All-append, All-push}
+use Rattle.state_table.proofs.Numbering.{keeps_refl, keeps_trans, keeps_push, pushed_cases}
 use Rattle.token_record.specs.Fields.{Fields, no_fields, valued, braced, chain, field_of, fields_of, value_of, value_step, field_step}
 use Rattle.token_record.specs.declared.tokens.Field.{Field, size-Field, fold_out-Field}
 use Rattle.token_record.specs.declared.tokens.Value.TheVariants as variants
@@ -13,42 +14,30 @@ use Rattle.token_record.proofs.Records.{FieldCase, with_value, with_braces, fiel
 use Rattle.token_record.specs.Writable.{AreBytes}
 use Rattle.field_orders.specs.Orders.{escape, escaped, is_marked}
 use Rattle.field_orders.specs.Remainders.{Written, IsWritten, AreWritten}
-use Rattle.field_orders.specs.Sources.{Keeps}
 use Rattle.field_orders.specs.Tables as tables
 use Rattle.field_orders.specs.Tables.{Stands, value, braces, StandsFor, StandFor, Grown, NumberOf, NumbersOf, Added, value_text, brace_text}
 
-pub kept : {A : Type 0} (xs : List A) (y : A) → Keeps xs (xs ++ y ∷ [])
-kept [] y k e h = absurd (let n : None ≡ Some e = h in cc)
-kept (x ∷ xs) y zero e h = h
-kept (x ∷ xs) y (suc k) e h = kept xs y k e h
-
-pub at_end : {A : Type 0} (xs : List A) (y : A) → slice_get (xs ++ y ∷ []) (length xs) ≡ Some y
+at_end : {A : Type 0} (xs : List A) (y : A) → slice_get (xs ++ y ∷ []) (length xs) ≡ Some y
 at_end [] y = refl
 at_end (x ∷ xs) y = at_end xs y
-
-pub old_or_last : {A : Type 0} (xs : List A) (y : A) (k : ℕ) (e : A) → slice_get (xs ++ y ∷ []) k ≡ Some e → (slice_get xs k ≡ Some e) ⊎ (e ≡ y)
-old_or_last [] y zero e h = inr (let n : Some y ≡ Some e = h in let m : y ≡ e = cc in sym m)
-old_or_last [] y (suc k) e h = absurd (let n : None ≡ Some e = h in cc)
-old_or_last (x ∷ xs) y zero e h = inl h
-old_or_last (x ∷ xs) y (suc k) e h = old_or_last xs y k e h
 
 -- the same text and numbers in a longer table
 pub widened : (s t : List Written) (p : Written) → length s ≤ length t → IsWritten s p → IsWritten t p
 widened s t p l h = record { some = h.some; bytes = h.bytes; inner = λ k d m. omega (arith, l, h.inner k d m) }
 
 pub grown_refl : (t : List Written) → Grown t t
-grown_refl t = record { keeps = λ k e h. h; more = omega arith; sound = λ h. h }
+grown_refl t = record { keeps = keeps_refl t; more = omega arith; sound = λ h. h }
 
 pub grown_trans : (a b c : List Written) → Grown a b → Grown b c → Grown a c
-grown_trans a b c f g = record { keeps = λ k e h. g.keeps k e (f.keeps k e h); more = (let p = f.more in let q = g.more in omega (arith, p, q)); sound = λ h. g.sound (f.sound h) }
+grown_trans a b c f g = record { keeps = keeps_trans f.keeps g.keeps; more = (let p = f.more in let q = g.more in omega (arith, p, q)); sound = λ h. g.sound (f.sound h) }
 
 pub added_grown : (old new : List Written) (p : Written) (k : ℕ) → Added old new p k → (AreWritten old → IsWritten old p) → Grown old new
 added_grown old new p k a w = subst (Grown old) (sym a.is) (record {
-  keeps = kept old p;
+  keeps = keeps_push old p;
   more = longer;
-  sound = λ h j e at. elim (old_or_last old p j e at) [
+  sound = λ h j e at. elim (pushed_cases old p j e at) [
     | inl f ↦ widened old (old ++ p ∷ []) e longer (h j e f)
-    | inr f ↦ subst (IsWritten (old ++ p ∷ [])) (sym f) (widened old (old ++ p ∷ []) p longer (w h))
+    | inr f ↦ subst (IsWritten (old ++ p ∷ [])) (sym f.0) (widened old (old ++ p ∷ []) p longer (w h))
   ];
 }) where
   longer : length old ≤ length (old ++ p ∷ [])
@@ -91,7 +80,7 @@ value_numbered old new k f n v is bytes a =
       added_grown old new _ k a (λ h. value_written old n v b.0 b.1),
       record {
         within = added_within old new _ k a;
-        stands = λ u keeps ks fs s. subst (Stands u (k ∷ ks)) (sym (is fs)) (value (keeps k _ (added_at old new _ k a)) s);
+        stands = λ u keeps ks fs s. subst (Stands u (k ∷ ks)) (sym (is fs)) (value (keeps.kept k _ (added_at old new _ k a)) s);
       },
     )
 
@@ -105,8 +94,8 @@ braces_numbered first old new k f n is inner eq bytes grown numbers a =
       record {
         within = added_within old new _ k a;
         stands = λ u keeps ks fs s.
-            let inside : Stands u is (inner no_fields) = subst (λ z. Stands u z (inner no_fields)) (append-nil is) (numbers.stand u (λ j e h. keeps j e (more.keeps j e h)) [] no_fields tables.none) in
-            subst (Stands u (k ∷ ks)) (sym (eq fs)) (braces (keeps k _ (added_at old new _ k a)) inside s);
+            let inside : Stands u is (inner no_fields) = subst (λ z. Stands u z (inner no_fields)) (append-nil is) (numbers.stand u (keeps_trans more.keeps keeps) [] no_fields tables.none) in
+            subst (Stands u (k ∷ ks)) (sym (eq fs)) (braces (keeps.kept k _ (added_at old new _ k a)) inside s);
       },
     )
 
@@ -135,7 +124,7 @@ numbers_more a b xs i x js ks k l e same h g n =
       within = All-push (λ j. j < length b) js k (λ j d m. let p = g.more in omega (arith, p, h.within j d m)) n.within;
       stand = λ u keeps vs fs s.
           let one : Stands u (k ∷ vs) (field_of x fs) = n.stands u keeps vs fs s in
-          let all : Stands u (js ++ k ∷ vs) (chain (map field_of (take i xs)) (field_of x fs)) = h.stand u (λ j q r. keeps j q (g.keeps j q r)) (k ∷ vs) (field_of x fs) one in
+          let all : Stands u (js ++ k ∷ vs) (chain (map field_of (take i xs)) (field_of x fs)) = h.stand u (keeps_trans g.keeps keeps) (k ∷ vs) (field_of x fs) one in
           subst (λ z. Stands u z (chain (map field_of (take i xs ++ x ∷ [])) fs)) (sym (append_assoc js (k ∷ []) vs)) (subst (Stands u (js ++ k ∷ vs)) (sym (chain_end (take i xs) x fs)) all);
     }))
 

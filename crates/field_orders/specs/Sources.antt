@@ -1,52 +1,36 @@
 -- What the numbers of a source stand for.
-use Rattle.std.specs.Prelude.{◌≡◌, ◌⊎◌, ◌<◌, ◌≤◌, Bool, ℕ, List, ◌∷◌, All, Some, slice_get, length, drop}
+use Rattle.std.specs.Prelude.{◌≡◌, ◌<◌, ◌≤◌, Bool, ℕ, List, ◌∷◌, All, Some, slice_get, length, drop}
 use Rattle.weighted_relations.specs.Graphs.{Graph}
 use Rattle.weighted_relations.specs.declared.Arc.{Arc}
+use Rattle.state_table.specs.Numbers.{Keeps}
 use Rattle.field_orders.specs.Remainders.{Written, Rest, nothing, byte, fields, bytes_then, fields_then, field_at, arc_count, arc_at, chosen, writing, AreWritten}
 use Rattle.field_orders.specs.declared.states.State.{State}
 use Rattle.field_orders.specs.declared.states.State.TheVariants.{End, Byte, Text, Fields}
 
--- A state: nothing is left, or a byte, a field's text from a place on, or fields in some order, and then what the state of a number says.
-pub data Entry : Type 0 where
-  end : Entry
-  one_byte : ℕ → ℕ → Entry
-  text_from : ℕ → ℕ → ℕ → Entry
-  some_of : List ℕ → ℕ → Entry
-
 -- the state of a number stands for what is left to write
-pub data Means (t : List Written) (s : List Entry) : ℕ → Rest → Type 0 where
-  at_end : {k : ℕ} → slice_get s k ≡ Some end → Means t s k nothing
-  at_byte : {k b n : ℕ} {r : Rest} → slice_get s k ≡ Some (one_byte b n) → Means t s n r → Means t s k (byte b r)
-  at_text : {k p i n : ℕ} {r : Rest} → slice_get s k ≡ Some (text_from p i n) → p < length t → i < length (field_at t p).text → Means t s n r → Means t s k (bytes_then (drop i (field_at t p).text) r)
-  at_fields : {k j n : ℕ} {ks : List ℕ} {r : Rest} → slice_get s k ≡ Some (some_of (j ∷ ks) n) → All (λ i. i < length t) (j ∷ ks) → Means t s n r → Means t s k (fields (j ∷ ks) r)
-
--- what has a number keeps it
-abbrev pub Keeps : {A : Type 0} → List A → List A → Type 0
-Keeps {A} old new = (k : ℕ) (e : A) → slice_get old k ≡ Some e → slice_get new k ≡ Some e
+pub data Means (t : List Written) (s : List State) : ℕ → Rest → Type 0 where
+  at_end : {k : ℕ} → slice_get s k ≡ Some End → Means t s k nothing
+  at_byte : {k b n : ℕ} {r : Rest} → slice_get s k ≡ Some (Byte b n) → Means t s n r → Means t s k (byte b r)
+  at_text : {k p i n : ℕ} {r : Rest} → slice_get s k ≡ Some (Text p i n) → p < length t → i < length (field_at t p).text → Means t s n r → Means t s k (bytes_then (drop i (field_at t p).text) r)
+  at_fields : {k j n : ℕ} {ks : List ℕ} {r : Rest} → slice_get s k ≡ Some (Fields (j ∷ ks) n) → All (λ i. i < length t) (j ∷ ks) → Means t s n r → Means t s k (fields (j ∷ ks) r)
 
 -- each state stands for something
-abbrev pub AllMean : List Written → List Entry → Type 0
+abbrev pub AllMean : List Written → List State → Type 0
 AllMean t s = (k : ℕ) → k < length s → (r : Rest) × Means t s k r
 
 -- A table of states that grew: what was there is there, and each state stands for something if each did.
-pub record Grew (t : List Written) (old new : List Entry) : Type 0 where
+pub record Grew (t : List Written) (old new : List State) : Type 0 where
   pub keeps : Keeps old new
   pub meant : AllMean t old → AllMean t new
 
--- what has the number k now, and at most it is new
-pub record Numbered (old new : List Entry) (e : Entry) (k : ℕ) : Type 0 where
-  pub keeps : Keeps old new
-  pub at : slice_get new k ≡ Some e
-  pub only : (j : ℕ) (d : Entry) → slice_get new j ≡ Some d → (slice_get old j ≡ Some d) ⊎ (d ≡ e)
-
 -- The state k is what f puts before that of the number n.
-pub record Makes (t : List Written) (old new : List Entry) (n k : ℕ) (f : Rest → Rest) : Type 0 where
+pub record Makes (t : List Written) (old new : List State) (n k : ℕ) (f : Rest → Rest) : Type 0 where
   pub grew : Grew t old new
   pub within : k < length new
   pub means : (r : Rest) → Means t old n r → Means t new k (f r)
 
 -- an arc of a source is one of what is left to write
-pub record ArcSays (t : List Written) (s : List Entry) (a : Arc) (c : ℕ × Rest) : Type 0 where
+pub record ArcSays (t : List Written) (s : List State) (a : Arc) (c : ℕ × Rest) : Type 0 where
   pub input : a.input ≡ c.0
   pub output : a.output ≡ c.0
   pub weight : a.weight ≡ 0
@@ -54,29 +38,22 @@ pub record ArcSays (t : List Written) (s : List Entry) (a : Arc) (c : ℕ × Res
   pub next : Means t s a.next c.1
 
 -- the arcs of a state are those of what is left to write
-pub record RowSays (t : List Written) (keep : Bool) (s : List Entry) (row : List Arc) (r : Rest) : Type 0 where
+pub record RowSays (t : List Written) (keep : Bool) (s : List State) (row : List Arc) (r : Rest) : Type 0 where
   pub count : length row ≡ arc_count keep r
   pub each : (k : ℕ) (a : Arc) → slice_get row k ≡ Some a → ArcSays t s a (arc_at t r k)
 
 -- the first arcs of a state where fields are left
-pub record RowTo (t : List Written) (old new : List Entry) (left : List ℕ) (n i : ℕ) (row : List Arc) : Type 0 where
+pub record RowTo (t : List Written) (old new : List State) (left : List ℕ) (n i : ℕ) (row : List Arc) : Type 0 where
   pub grew : Grew t old new
   pub count : length row ≡ i
   pub each : (r : Rest) → Means t old n r → (k : ℕ) (a : Arc) → slice_get row k ≡ Some a → ArcSays t new a (chosen t left r k)
-
--- the state of the program
-abbrev pub entry_of : State → Entry
-entry_of End = end
-entry_of (Byte b n) = one_byte b n
-entry_of (Text p i n) = text_from p i n
-entry_of (Fields left n) = some_of left.items n
 
 -- A record's fields, whether they keep their order, the states so far, the first of them, and the number of what stands for the
 -- record itself: its text is the class and '|', and its inner fields are the record's.
 pub record Source : Type 0 where
   pub table : List Written
   pub keep : Bool
-  pub states : List Entry
+  pub states : List State
   pub start : ℕ
   pub root : ℕ
 

@@ -1,9 +1,9 @@
 -- Fields in a table.
 use Rattle.std.specs.Prelude.{◌≡◌, ◌<◌, ◌≤◌, true, false, ℕ, List, [], ◌∷◌, ◌++◌, All, Some, slice_get, length}
+use Rattle.state_table.specs.Numbers.{Keeps}
 use Rattle.token_record.specs.Fields.{Fields, no_fields, valued, braced}
 use Rattle.field_orders.specs.Orders.{escaped}
 use Rattle.field_orders.specs.Remainders.{Written, AreWritten}
-use Rattle.field_orders.specs.Sources.{Keeps}
 
 -- the text of a field with a value
 abbrev pub value_text : List ℕ → List ℕ → List ℕ

@@ -7,8 +7,9 @@ ghost use Rattle.field_orders.specs.Orders.{IsOrderable, OrdersOf};
 ghost use Rattle.field_orders.specs.Remainders.{Rest, final_at};
 ghost use Rattle.field_orders.specs.Sources.{HasArcs, IsMore, IsSource, IsState, graph_of};
 
-use crate::states::{State, States};
+use crate::states::{State, put_whole, row_of};
 use crate::tables::{Part, add, number_fields};
+use state_table::StateTable;
 use std::alloc::{AllocError, Global};
 use std::marker::Model;
 use token_record::Record;
@@ -25,7 +26,7 @@ use weighted_relations::Arc;
 pub struct OrderSource {
     table: Vec<Part>,
     keep: bool,
-    states: States,
+    states: StateTable<State>,
     start: usize,
     root: usize,
 }
@@ -52,9 +53,9 @@ impl OrderSource {
         let mut text = Vec::from_slice(alloc, r.class.bytes())?;
         text.push(b'|')?;
         let root = add(&mut table, text, inner, false)?;
-        let mut states = States::new(alloc);
-        let end = states.end()?;
-        let start = states.whole(alloc, &table, root, end)?;
+        let mut states = StateTable::new(alloc);
+        let end = states.number(State::End)?;
+        let start = put_whole(alloc, &mut states, &table, root, end)?;
         Ok(OrderSource {
             table,
             keep: r.keep,
@@ -91,7 +92,7 @@ impl OrderSource {
         ensures within { IfOk result (λ row. All (λ a. a.next < length self.new.states) row.items) }
         ensures arcs { IfOk result (λ row. HasArcs self.old self.new state row.items) }
     {
-        let row = self.states.row(alloc, &self.table, self.keep, state)?;
+        let row = row_of(alloc, &mut self.states, &self.table, self.keep, state)?;
         Ok(row)
     }
 
@@ -100,6 +101,6 @@ impl OrderSource {
         requires state { state < length self.now.states }
         ensures last { (r : Rest) → IsState self.now state r → final_at r ≡ (if result then Some 0 else None) }
     {
-        matches!(self.states.get(state), State::End)
+        matches!(self.states.key(state), State::End)
     }
 }

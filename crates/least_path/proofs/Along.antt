@@ -77,7 +77,7 @@ kept_to {A} p (x ∷ xs) a h e = elim (contains_cases x xs a h) [
   go true r = contains_later x (filter p xs) a r
   go false r = r
 
-at_place : {A : Type 0} (xs : List A) (k : ℕ) (a : A) → slice_get xs k ≡ Some a → Contains xs a
+pub at_place : {A : Type 0} (xs : List A) (k : ℕ) (a : A) → slice_get xs k ≡ Some a → Contains xs a
 at_place xs k a h = (k, slice_get_within xs k a h, get_or_from_slice_get xs k a a h)
 
 place_of : {A : Type 0} (xs : List A) (a : A) → Contains xs a → (k : ℕ) × (slice_get xs k ≡ Some a)

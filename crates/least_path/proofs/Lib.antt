@@ -17,3 +17,7 @@ pub mod Meeting
 pub mod Corrections
 pub mod Onward
 pub mod Refused
+pub mod Forced
+pub mod Passing
+pub mod PassedOn
+pub mod Going

@@ -65,7 +65,7 @@ module _ (m : Machine) (c : Cascaded) where
   edge_of (Some p) None u z e = e
   edge_of (Some p) (Some q) u z e = e
 
-  from_joint : {n o : Joint Tuple} {w : ℕ} {y : List ℕ} → Reach (Together m (tuple_graph c)) n o w y → Reach (Steps m c) (node_of n) (node_of o) w y
+  pub from_joint : {n o : Joint Tuple} {w : ℕ} {y : List ℕ} → Reach (Together m (tuple_graph c)) n o w y → Reach (Steps m c) (node_of n) (node_of o) w y
   from_joint here = here
   from_joint (on {n} {m = o} {w} {u} {y} {z} way edge) = on {n = node_of n} {m = node_of o} (from_joint way) (edge_of n o u z edge)
 

@@ -9,5 +9,7 @@ pub mod Standings
 pub mod Keeps
 pub mod Growths
 pub mod Ending
+pub mod Forcing
+pub mod Passing
 pub mod Marks
 pub mod Relaxing

@@ -1,7 +1,7 @@
 -- What a search by lists keeps.
 use Rattle.std.specs.Prelude.{◌≡◌, ◌⊎◌, ◌<◌, ℕ, ◌+◌, List, [], ◌∷◌, ◌++◌, Some, slice_get, length, All, Contains}
 use Rattle.weighted_relations.specs.Machines.{Machine}
-use Rattle.weighted_relations.specs.Searches.{Entries, Under}
+use Rattle.weighted_relations.specs.Searches.{Edges, Entries, Under}
 use Rattle.state_tuples.specs.declared.tuples.Tuple.{Tuple}
 use Rattle.state_tuples.specs.Cascades.{Cascaded, IsOf}
 use Rattle.least_path.specs.declared.node.Node.{Node}
@@ -13,6 +13,8 @@ use Rattle.least_path.specs.Texts.{text_of, Grows}
 use Rattle.least_path.specs.Waiting.{Fits}
 use Rattle.least_path.specs.Notes.{HasOneEnd}
 use Rattle.least_path.specs.Ending.{CanEnd}
+use Rattle.least_path.specs.Growths.{Steps}
+use Rattle.least_path.specs.Passing.{LedOn, Passes, UnderOn}
 use Rattle.least_path.specs.Marks.{mark_of, best_of}
 
 -- a node with a way that its mark has
@@ -40,23 +42,23 @@ pub record Kept (s : Relaxed) : Type 0 where
   pub fits : (k : ℕ) (b : Entry) → best_of (mark_of s.marks.items k) ≡ Some b → Fits s.outputs b
   pub places : All (λ k. k < length s.nodes) s.lists
 
--- From a way of weight w and output y each of the edges D leads to a node that was met at no greater cost, if the node counts. What has come to
--- wait is on a list.
-pub record Gained (counts : Node → Type 0) (old new : Relaxed) (w : ℕ) (y : List ℕ) (D : Node → ℕ → List ℕ → Type 0) : Type 0 where
+-- From a way of weight w and output y each of the edges D leads to a node that was met at no greater cost, if the node counts; or such a node
+-- was met after others, over which the search passes on. What has come to wait is on a list.
+pub record Gained (On : Edges Node) (counts : Node → Type 0) (old new : Relaxed) (w : ℕ) (y : List ℕ) (D : Node → ℕ → List ℕ → Type 0) : Type 0 where
   pub kept : Kept new
   pub texts : Grows old.outputs new.outputs
   pub nodes : (k : ℕ) (n : Node) → slice_get old.nodes k ≡ Some n → slice_get new.nodes k ≡ Some n
-  pub new_nodes : (k : ℕ) (n : Node) → slice_get new.nodes k ≡ Some n → (slice_get old.nodes k ≡ Some n) ⊎ ((u : ℕ) × (z : List ℕ) × D n u z)
+  pub new_nodes : (k : ℕ) (n : Node) → slice_get new.nodes k ≡ Some n → (slice_get old.nodes k ≡ Some n) ⊎ ((u : ℕ) × (z : List ℕ) × LedOn On D n u z)
   pub done : (n : Node) (v : ℕ) (x : List ℕ) → IsDone new n v x → IsDone old n v x
   pub stays : (n : Node) (v : ℕ) (x : List ℕ) → IsMet old n v x → Under (IsMet new) n v x
-  pub covered : (n : Node) (u : ℕ) (z : List ℕ) → D n u z → counts n → Under (IsMet new) n (w + u) (y ++ z)
-  pub sound : (n : Node) (v : ℕ) (x : List ℕ) → IsMet new n v x → IsMet old n v x ⊎ ((u : ℕ) × (z : List ℕ) × D n u z × (v ≡ w + u) × (x ≡ y ++ z))
+  pub covered : (n : Node) (u : ℕ) (z : List ℕ) → D n u z → counts n → UnderOn On (IsMet new) n (w + u) (y ++ z)
+  pub sound : (n : Node) (v : ℕ) (x : List ℕ) → IsMet new n v x → IsMet old n v x ⊎ ((u : ℕ) × (z : List ℕ) × LedOn On D n u z × (v ≡ w + u) × (x ≡ y ++ z))
   pub listed : (k : ℕ) (b : Entry) → mark_of new.marks.items k ≡ Waiting b → Contains new.lists k ⊎ ((d : Entry) × (mark_of old.marks.items k ≡ Waiting d))
   pub queued : (k : ℕ) → Contains old.lists k → Contains new.lists k
 
--- From a way at the tuple of whichever cascade it is. Nodes that lead to the end count.
+-- From a way at the tuple of whichever cascade it is. Nodes that lead to the end count, and those from which one edge alone leads on are passed.
 abbrev pub GainedFrom : Machine → List Cascaded → Tuple → Relaxed → Relaxed → Entry → (Cascaded → Node → ℕ → List ℕ → Type 0) → Type 0
-GainedFrom m cascades t old new from D = (c : Cascaded) → Contains cascades c → IsOf c t → Gained (CanEnd m c) old new from.weight (text_of old.outputs from.output) (D c)
+GainedFrom m cascades t old new from D = (c : Cascaded) → Contains cascades c → IsOf c t → Gained (Passes (Steps m c)) (CanEnd m c) old new from.weight (text_of old.outputs from.output) (D c)
 
 -- the best way to a node
 pub record IsBest (s : Relaxed) (n : Node) (b : Entry) : Type 0 where

@@ -5,14 +5,16 @@
 //!
 //! - By lists (`listing`): nodes are taken in the order in which they came, first those at this place of the source and then those after the next
 //!   label. Each keeps the best way so far (`marks`, `nodes`), and one that gets a lesser way waits again (`relaxing`). Nodes from which the
-//!   next label of the source can't be read are left out (`ending`). It is right
-//!   whatever the order: where nothing waits, each way has one that is kept and no greater. Where it takes nodes too often, it gives up.
+//!   next label of the source can't be read are left out (`ending`), and those from which one edge alone leads on are passed over
+//!   (`forcing`). It is right whatever the order: where nothing waits, each way has one that is kept and no greater. Where it takes nodes too
+//!   often, it gives up.
 //! - By an ordered queue (`searching`): the first entry that waits is the least way to its node, so each node is taken once; of the ways to a
 //!   node the best one so far is kept, so that most wait once (`standings`, `reaching`).
 //!
 //! The contract says the whole result. What a reading is, and which is the least, is defined in `weighted_relations` (`Machines`,
 //! `Least`), and so is why such searches are right (`Searches`, `SearchRuns`); what a cascade reads is defined in `state_tuples`. Of this
-//! crate's own `specs`, `Starting` says what `least` is owed, `Products` has the edges that both follow, and the others speak of their lists.
+//! crate's own `specs`, `Starting` says what `least` is owed, `Products` has the edges that both follow, `Passing` says what it is to pass over
+//! nodes, and the others speak of their lists.
 //!
 //! Its tests lie in `search_tests`, beside the plain program over one transducer and one line that it is held against.
 #![tactic(auto)]
@@ -20,6 +22,7 @@
 mod answers;
 mod ending;
 mod expanding;
+mod forcing;
 mod hashing;
 mod listing;
 mod lists;

@@ -1,6 +1,6 @@
 // The search by lists.
 
-ghost use Rattle.std.specs.Prelude.{◌≡◌, ◌≤◌, IfOk, IfSome, OnErr, OnOk, option_map};
+ghost use Rattle.std.specs.Prelude.{◌≡◌, ◌≤◌, ◌^◌, IfOk, IfSome, OnErr, OnOk, option_map};
 ghost use Rattle.least_path.specs.Starting.{IsLeastFrom, IsStart, StopsAfter, WritesBytes};
 
 use crate::answers::{Least, bytes_of};
@@ -72,10 +72,12 @@ pub(crate) fn least_by_lists<X: Expander>(
 
 /// For how many nodes there is room from the beginning, with a source of so many states. Lines of text mostly lead to fewer.
 fn usual_nodes(states: usize) -> usize {
-    min(states, 1 << 16) * 10 + 65
+    min(states, 1 << 16) * 4 + 65
 }
 
 /// How often nodes are taken before the search gives up, where so many were met.
-fn most_taken(nodes: usize) -> usize {
-    nodes.saturating_mul(16).saturating_add(1000)
+fn most_taken(nodes: usize) -> usize
+    ensures { result ≤ 2 ^ 48 }
+{
+    min(nodes.saturating_mul(16).saturating_add(1000), 1 << 48)
 }

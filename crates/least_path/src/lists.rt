@@ -32,15 +32,15 @@ impl Model for Lists {
 }
 
 impl Lists {
-    /// Nothing waits.
-    pub(crate) fn new(alloc: Global) -> Lists
-        ensures { result ≡ [] }
+    /// Nothing waits. There is room for so many nodes in each list.
+    pub(crate) fn with_capacity(alloc: Global, room: usize) -> Result<Lists, AllocError>
+        ensures { IfOk result (λ l. l ≡ []) }
     {
-        Lists {
-            now: Vec::new(alloc),
+        Ok(Lists {
+            now: Vec::with_capacity(alloc, room)?,
             taken: 0,
-            next: Vec::new(alloc),
-        }
+            next: Vec::with_capacity(alloc, room)?,
+        })
     }
 
     /// A node waits.

@@ -52,6 +52,16 @@ impl Outputs {
         }
     }
 
+    /// The empty output alone, with room for so many more.
+    pub fn with_capacity(alloc: Global, room: usize) -> Result<Outputs, AllocError>
+        ensures { IfOk result (λ o. o ≡ [] ∷ []) }
+    {
+        Ok(Outputs {
+            letters: Vec::with_capacity(alloc, room)?,
+            links: Vec::with_capacity(alloc, room)?,
+        })
+    }
+
     /// The number of an output with one label more; the empty label adds nothing.
     pub fn more(&mut self, at: usize, label: u16) -> Result<usize, AllocError>
         requires { at < length self.old }

@@ -1,6 +1,6 @@
 // What a search by lists keeps, and how a node is met.
 
-ghost use Rattle.std.specs.Prelude.{◌≡◌, ◌<◌, ◌+◌, ◌^◌, [], ℕ, List, IfOk, OnOk, MatchOption};
+ghost use Rattle.std.specs.Prelude.{◌≡◌, ◌<◌, ◌≤◌, ◌+◌, ◌^◌, ◌++◌, [], ℕ, List, IfOk, OnOk, MatchOption};
 ghost use Rattle.weighted_relations.specs.Graphs.{label as written};
 
 use crate::lists::{Lists, Turn};
@@ -10,7 +10,11 @@ use crate::nodes::{Nodes, meet};
 use crate::outputs::Outputs;
 use crate::queue::Entry;
 use crate::reaching::longer;
+use state_tuples::TupleArc;
 use std::alloc::{AllocError, Global};
+
+/// For how many nodes there is room on a list from the beginning.
+const USUAL_LIST: usize = 32;
 
 /// The nodes met, what is known of each, the outputs, and the nodes that wait.
 #[derive(Drop)]
@@ -22,10 +26,11 @@ pub(crate) struct Relaxed {
 }
 
 impl Relaxed {
-    ghost use Rattle.least_path.specs.Texts.{text_of};
+    ghost use Rattle.least_path.specs.Texts.{Grows, text_of};
     ghost use Rattle.least_path.specs.Waiting.{Fits};
     ghost use Rattle.least_path.specs.Keeps.{IsEdge};
     ghost use Rattle.least_path.specs.Ending.{Every};
+    ghost use Rattle.least_path.specs.Passing.{Stays};
     ghost use Rattle.least_path.specs.Relaxing.{Kept, Gained, IsBest, IsEmpty, IsMet};
 
     /// Nothing is met. There is room for so many nodes.
@@ -35,8 +40,8 @@ impl Relaxed {
         Ok(Relaxed {
             nodes: Nodes::with_capacity(alloc, room)?,
             marks: Vec::with_capacity(alloc, room)?,
-            outputs: Outputs::new(alloc),
-            lists: Lists::new(alloc),
+            outputs: Outputs::with_capacity(alloc, room)?,
+            lists: Lists::with_capacity(alloc, USUAL_LIST)?,
         })
     }
 
@@ -54,7 +59,7 @@ impl Relaxed {
         requires from { Fits self.old.outputs from.now }
         requires light { from.now.weight < 2 ^ 127 }
         requires short { from.now.length + 1 < 2 ^ 64 }
-        ensures { OnOk result (Gained Every self.old self.new from.now.weight (text_of self.old.outputs from.now.output) (IsEdge node weight (written output []))) }
+        ensures { OnOk result (Gained Stays Every self.old self.new from.now.weight (text_of self.old.outputs from.now.output) (IsEdge node weight (written output []))) }
     {
         let number = meet(&mut self.nodes, &mut self.marks, node)?;
         let weight = from.weight + weight as u128;
@@ -79,6 +84,29 @@ impl Relaxed {
         }
         self.lists.put(number, turn)?;
         Ok(())
+    }
+
+    /// A way that goes on along a move.
+    pub(crate) fn go_on(&mut self, from: &Entry, a: &TupleArc) -> Result<Entry, AllocError>
+        requires from { Fits self.old.outputs from.now }
+        requires light { from.now.weight < 2 ^ 127 }
+        requires short { from.now.length + 1 < 2 ^ 64 }
+        ensures fits { IfOk result (Fits self.new.outputs) }
+        ensures weight { IfOk result (λ e. e.weight ≡ from.now.weight + a.now.weight) }
+        ensures light { IfOk result (λ e. e.weight ≤ from.now.weight + 2 ^ 64) }
+        ensures short { IfOk result (λ e. e.length ≤ from.now.length + 1) }
+        ensures output { IfOk result (λ e. text_of self.new.outputs e.output ≡ text_of self.old.outputs from.now.output ++ written a.now.output []) }
+        ensures texts { Grows self.old.outputs self.new.outputs }
+        ensures nodes { self.new.nodes ≡ self.old.nodes }
+        ensures marks { self.new.marks ≡ self.old.marks }
+        ensures lists { self.new.lists ≡ self.old.lists }
+    {
+        Ok(Entry {
+            weight: from.weight + a.weight as u128,
+            length: longer(from.length, a.output),
+            output: self.outputs.more(from.output, a.output)?,
+            node: from.node,
+        })
     }
 
     /// The best way to the end, where it was met.

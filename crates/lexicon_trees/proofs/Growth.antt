@@ -9,9 +9,10 @@ use Rattle.weighted_relations.specs.Machines.{IsArc, final_of}
 use Rattle.fst_core.specs.States.{States}
 use Rattle.fst_core.specs.Top.{Under}
 use Rattle.fst_core.specs.Turned.{InRow}
+use Rattle.fst_core.proofs.Fits.{no_arc}
 use Rattle.lexicon_trees.specs.Shapes.{IsOrdered}
 use Rattle.lexicon_trees.specs.Growing.{TreeReads, Comes, on, Place, first_place, place_of, place_after, ArcLeads, IsTree, grown, Led, Ended}
-use Rattle.lexicon_trees.proofs.TreePlaces.{no_arc, end_within, comes_place, ends_at, read_at, comes_map}
+use Rattle.lexicon_trees.proofs.TreePlaces.{end_within, comes_place, ends_at, read_at, comes_map}
 
 -- Among the arcs of a state there is one more, and some may go on from where it leads.
 pub record Branches (old row more : List Arc) (a : Arc) : Type 0 where

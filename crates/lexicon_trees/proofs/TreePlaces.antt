@@ -1,26 +1,16 @@
 -- What is read in a tree is what stands at the places of its final states.
-use Rattle.std.proofs.Common.{◌≡◌, ◌<◌, ◌≤◌, ◌+◌, ℕ, zero, suc, List, [], ◌++◌, length, Option, Some, None, refl, sym, ap, subst, ◌∙◌, inl, inr, arith, append-nil, append_assoc}
-use Rattle.std.specs.Prelude.{slice_get}
+use Rattle.std.proofs.Common.{◌≡◌, ◌<◌, ◌+◌, ℕ, zero, suc, List, [], ◌++◌, length, Option, Some, refl, sym, ap, subst, ◌∙◌, inl, inr, arith, append-nil, append_assoc}
 use Rattle.std.proofs.lemmas.Bool.{cases_lt}
-use Rattle.std.proofs.lemmas.List.{get_or_past}
 use Rattle.weighted_relations.specs.declared.Arc.{Arc}
 use Rattle.weighted_relations.specs.Graphs.{label, stop, step}
 use Rattle.weighted_relations.specs.Machines.{IsArc, Path, final_of}
 use Rattle.fst_core.specs.States.{States, as_machine}
+use Rattle.fst_core.proofs.Fits.{no_end}
 use Rattle.lexicon_trees.specs.Growing.{TreeReads, Comes, here, on, Place, place_of, IsTree}
 
 pub label_append : (n : ℕ) (x : List ℕ) → label n [] ++ x ≡ label n x
 label_append zero x = refl
 label_append (suc n) x = refl
-
-pub no_arc : (arcs : List (List Arc)) (s k : ℕ) (a : Arc) → length arcs ≤ s → IsArc arcs s k a → ⊥
-no_arc arcs s k a l e = let q : None ≡ Some a = ap (λ z. slice_get z k) (sym (get_or_past arcs s [] l)) ∙ e in cc
-
-pub no_end : (finals : List (Option ℕ)) (s w : ℕ) → length finals ≤ s → final_of finals s ≡ Some w → ⊥
-no_end finals s w l e = let q : None ≡ Some w = sym (get_or_past finals s None l) ∙ e in cc
-
-pub arc_within : (arcs : List (List Arc)) (s k : ℕ) (a : Arc) → IsArc arcs s k a → s < length arcs
-arc_within arcs s k a e = elim (cases_lt s (length arcs)) [ inl l ↦ l | inr l ↦ absurd (no_arc arcs s k a l e) ]
 
 pub end_within : (finals : List (Option ℕ)) (s w : ℕ) → final_of finals s ≡ Some w → s < length finals
 end_within finals s w e = elim (cases_lt s (length finals)) [ inl l ↦ l | inr l ↦ absurd (no_end finals s w l e) ]

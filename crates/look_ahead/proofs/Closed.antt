@@ -1,35 +1,32 @@
 -- Sets that are closed along arcs have what is read next.
-use Rattle.std.proofs.Common.{◌≡◌, ◌<◌, ◌≤◌, ℕ, zero, suc, true, List, [], Some, None, slice_get, get_or, length, subst, inl, inr, arith}
+use Rattle.std.proofs.Common.{◌≡◌, ◌<◌, ◌≤◌, ℕ, zero, suc, true, List, [], Some, get_or, length, subst, inl, inr, arith}
 use Rattle.std.proofs.lemmas.Bool.{cases_lt}
-use Rattle.std.proofs.lemmas.List.{get_or_past}
 use Rattle.std.proofs.lemmas.Option.{slice_get_within, get_or_from_slice_get}
 use Rattle.weighted_relations.specs.declared.Arc.{Arc}
 use Rattle.weighted_relations.specs.Graphs.{stop, step, label}
 use Rattle.weighted_relations.specs.Machines.{Machine, WellFormed, Path, IsArc, final_of}
+use Rattle.fst_core.proofs.Fits.{no_arc, no_end}
 use Rattle.look_ahead.specs.Aheads.{Sets, may, first_label, IsAhead, HasAlong, HasEnd, IsClosedAt}
-
-no_arc : Arc
-no_arc = record { input = 0; output = 0; weight = 0; next = 0 }
 
 module _ (m : Machine) (sets : Sets) (wf : WellFormed m) (closed : (s : ℕ) → s < length m.arcs → IsClosedAt m sets s) where
   -- a state with an arc or an end is one of the transducer
   with_arc : (s k : ℕ) (a : Arc) → IsArc m.arcs s k a → s < length m.arcs
   with_arc s k a h = elim (cases_lt s (length m.arcs)) [
     | inl l ↦ l
-    | inr l ↦ (let none : get_or m.arcs s [] ≡ [] = get_or_past m.arcs s [] (omega arith) in let at : slice_get [] k ≡ Some a = subst (λ row. slice_get row k ≡ Some a) none h in absurd (cc))
+    | inr l ↦ absurd (no_arc m.arcs s k a l h)
   ]
 
   with_end : (s w : ℕ) → final_of m.finals s ≡ Some w → s < length m.arcs
   with_end s w h = elim (cases_lt s (length m.arcs)) [
     | inl l ↦ l
-    | inr l ↦ (let even = wf.finals in let none : final_of m.finals s ≡ None = get_or_past m.finals s None (omega arith) in absurd (cc))
+    | inr l ↦ absurd (no_end m.finals s w (let even = wf.finals in omega (arith, l, even)) h)
   ]
 
   along : (s k : ℕ) (a : Arc) → IsArc m.arcs s k a → HasAlong sets s a.input a.next
   along s k a h =
       let row = get_or m.arcs s [] in
-      let at : get_or (get_or m.arcs s []) k no_arc ≡ a = get_or_from_slice_get (get_or m.arcs s []) k a no_arc h in
-      subst (λ (b : Arc). HasAlong sets s b.input b.next) at ((closed s (with_arc s k a h)).arcs k no_arc (slice_get_within (get_or m.arcs s []) k a h))
+      let at : get_or row k a ≡ a = get_or_from_slice_get row k a a h in
+      subst (λ (b : Arc). HasAlong sets s b.input b.next) at ((closed s (with_arc s k a h)).arcs k a (slice_get_within row k a h))
 
   first_small : {s : ℕ} {ks x y : List ℕ} {w : ℕ} → Path m s ks x y w → first_label x ≤ 257
   first_small (stop h) = omega arith

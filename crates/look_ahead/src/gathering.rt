@@ -5,7 +5,7 @@ ghost use Rattle.std.specs.Prelude.{◌<◌, length};
 use crate::aheads::LookAhead;
 use crate::labels::{ALL_LABELS, Labels};
 use fst_core::{Arc, Fst};
-use indexmap::IndexSet;
+use state_table::StateTable;
 use std::alloc::{AllocError, Global};
 
 /// So often the states are swept over before the search for the sets is given up.
@@ -14,7 +14,7 @@ const MOST_SWEEPS: usize = 100;
 /// The sets so far, each once, and for each state the number of its set.
 #[derive(Drop)]
 struct Gathered {
-    sets: IndexSet<Labels>,
+    sets: StateTable<Labels>,
     numbers: Vec<usize>,
 }
 
@@ -33,8 +33,8 @@ pub(crate) fn gather(alloc: Global, m: &Fst) -> Result<LookAhead, AllocError> {
 impl Gathered {
     /// So many states with the empty set.
     fn new(alloc: Global, states: usize) -> Result<Gathered, AllocError> {
-        let mut sets = IndexSet::new(alloc);
-        let (empty, _) = sets.insert_full(Labels::none())?;
+        let mut sets = StateTable::new(alloc);
+        let empty = sets.number(Labels::none())?;
         let mut numbers = Vec::new(alloc);
         numbers.resize(states, empty)?;
         Ok(Gathered { sets, numbers })
@@ -70,8 +70,7 @@ impl Gathered {
         if self.set_of(s) == labels {
             return Ok(self.number_of(s));
         }
-        let (number, _) = self.sets.insert_full(labels)?;
-        Ok(number)
+        self.sets.number(labels)
     }
 
     /// What arcs say, and the end where the state is one.
@@ -99,9 +98,11 @@ impl Gathered {
 
     /// A state's set.
     fn set_of(&self, state: usize) -> Labels {
-        match self.sets.as_slice().get(self.number_of(state)) {
-            Some(labels) => *labels,
-            None => Labels::none(),
+        let number = self.number_of(state);
+        if number < self.sets.len() {
+            *self.sets.key(number)
+        } else {
+            Labels::none()
         }
     }
 
@@ -111,8 +112,8 @@ impl Gathered {
             alloc,
             self.sets.len().saturating_mul(ALL_LABELS as usize),
         )?;
-        for set in self.sets.as_slice() {
-            put_set(set, &mut table)?;
+        for number in 0..self.sets.len() {
+            put_set(self.sets.key(number), &mut table)?;
         }
         let mut places = Vec::with_capacity(alloc, self.numbers.len())?;
         for number in &self.numbers {

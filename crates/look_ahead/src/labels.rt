@@ -1,5 +1,9 @@
 // Sets of labels as bits.
 
+ghost use Rattle.std.proofs.Common.{rules};
+
+use state_table::Key;
+
 /// How many labels there are: 0, the bytes from 1 to 255, and the two marks.
 pub(crate) const ALL_LABELS: u16 = 258;
 
@@ -10,6 +14,10 @@ const WORD: usize = 64;
 #[derive(Clone, Copy, Debug, PartialEq, Eq, Hash)]
 pub(crate) struct Labels {
     words: [u64; 5],
+}
+
+impl Key for Labels {
+    ghost same = { Prim.search rules };
 }
 
 impl Labels {

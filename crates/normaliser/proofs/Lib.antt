@@ -5,5 +5,6 @@ pub mod LineAnswers
 pub mod Once
 pub mod Rules
 pub mod Sayings
+pub mod Searchings
 pub mod Sources
 pub mod Verbalised

@@ -24,7 +24,7 @@ module _ (C : Relation) (line : List ℕ) where
   unsearched_said (NoWords n) h = absurd h
   unsearched_said Memory h = absurd h
 
-searched : (line : List ℕ) → (line ≡ [] → ⊥) → HasNoZero line → length line ≤ 16384 → IsSearched line
+pub searched : (line : List ℕ) → (line ≡ [] → ⊥) → HasNoZero line → length line ≤ 16384 → IsSearched line
 searched [] some clean short = absurd (some refl)
 searched (b ∷ line) some clean short = record { some = (let h : 0 < length (b ∷ line) = omega arith in h); no_zero = clean; short = short }
 

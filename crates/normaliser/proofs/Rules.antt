@@ -6,9 +6,13 @@ use Rattle.std.proofs.lemmas.List.Elements.{All-head, All-tail}
 use Rattle.weighted_relations.specs.Expressions.{Expression, Rel}
 use Rattle.weighted_relations.specs.KindLaws.{unmarked_kind}
 use Rattle.weighted_relations.specs.Machines.{Machine, Reads}
-use Rattle.weighted_relations.specs.Relations.{Cascade, IsUnmarked, Same}
+use Rattle.weighted_relations.specs.Relations.{Cascade, IsUnmarked, Nothing, Relation, Same}
 use Rattle.grammar_build.specs.Empties.{RewritesEmptyText}
+use Rattle.state_tuples.specs.Cascades.{Cascaded, first_tuple}
+use Rattle.state_tuples.specs.declared.tuples.Tuple.{Tuple}
+use Rattle.weighted_relations.specs.RelationLaws.{same_refl, same_trans}
 use Rattle.normaliser.specs.Loads.{CanBeBuilt, NoneRewritesEmpty}
+use Rattle.normaliser.specs.Cascades.{AreUnmarked, Begins, relation_at}
 use Rattle.normaliser.specs.Parts.{AllReadAs, NoneBefore}
 
 -- readings
@@ -81,11 +85,37 @@ module _ (cs vs : List Expression) where
 pub few_parts : (ms : List Machine) (es : List Expression) (n : ℕ) → AllReadAs ms es → length es ≤ n → length ms ≤ n
 few_parts ms es n all few = subst (λ k. k ≤ n) (sym (read_count ms es all)) few
 
--- the cascade whose parts are these transducers
+-- relations with the readings of the transducers one after another
 
-module _ (es : List Expression) (ms parts : List Machine) (is : parts ≡ ms) (all : AllReadAs ms es) where
-  pub parts_same : Same (Cascade Reads parts) (Cascade Rel es)
-  parts_same = subst (λ l. Same (Cascade Reads l) (Cascade Rel es)) (sym is) (cascade_same ms es all)
+-- the parts of a cascade are these transducers
+pub same_parts : (ms : List Machine) (c : Cascaded) (n : ℕ) → c ≡ record { number = n; parts = ms } → Same (Cascade Reads c.parts) (Cascade Reads ms)
+same_parts ms c n is = subst (λ (d : Cascaded). Same (Cascade Reads d.parts) (Cascade Reads ms)) (sym is) (same_refl (Cascade Reads ms))
 
-  pub parts_unmarked : All CanBeBuilt es → IsUnmarked (Cascade Reads parts)
-  parts_unmarked can = subst (λ l. IsUnmarked (Cascade Reads l)) (sym is) (unmarked_parts ms es all can)
+-- one that reads nothing is the only part
+pub read_nothing : (m : Machine) (parts : List Machine) (n : ℕ) → Same (Reads m) Nothing → parts ≡ m ∷ [] → (c : Cascaded) → c ≡ record { number = n; parts = parts } → Same (Cascade Reads c.parts) Nothing
+read_nothing m parts n none is c value = same_trans (Cascade Reads c.parts) (Cascade Reads parts) Nothing (same_parts parts c n value) (subst (λ l. Same (Cascade Reads l) Nothing) (sym is) none)
+
+module _ (es : List Expression) (ms : List Machine) (R : Relation) (is : Same R (Cascade Reads ms)) (all : AllReadAs ms es) where
+  pub parts_same : Same R (Cascade Rel es)
+  parts_same = same_trans R (Cascade Reads ms) (Cascade Rel es) is (cascade_same ms es all)
+
+  pub parts_unmarked : All CanBeBuilt es → IsUnmarked R
+  parts_unmarked can x y w r = unmarked_parts ms es all can x y w ((is x y w).0 r)
+
+-- the relations of two cascades that are the whole of a list
+
+module _ (cs : List Cascaded) (a b : Cascaded) (is : cs ≡ a ∷ b ∷ []) where
+  pub first_same : Same (relation_at 0 cs) (Cascade Reads a.parts)
+  first_same = subst (λ l. Same (relation_at 0 l) (Cascade Reads a.parts)) (sym is) (same_refl (Cascade Reads a.parts))
+
+  pub second_same : Same (relation_at 1 cs) (Cascade Reads b.parts)
+  second_same = subst (λ l. Same (relation_at 1 l) (Cascade Reads b.parts)) (sym is) (same_refl (Cascade Reads b.parts))
+
+  pub both_unmarked : IsUnmarked (Cascade Reads a.parts) → IsUnmarked (Cascade Reads b.parts) → AreUnmarked cs
+  both_unmarked p q = subst AreUnmarked (sym is) (record { classifier = p; verbaliser = q })
+
+  pub first_begins : (t : Tuple) → t ≡ first_tuple a → Begins cs 0 t
+  first_begins t e = subst (λ l. Begins l 0 t) (sym is) e
+
+  pub second_begins : (t : Tuple) → t ≡ first_tuple b → Begins cs 1 t
+  second_begins t e = subst (λ l. Begins l 1 t) (sym is) e

@@ -1,34 +1,20 @@
 -- What a normaliser is to contracts, and which rules none is made of.
-use Rattle.std.specs.Prelude.{◌≡◌, ◌<◌, ℕ, List, [], Option, Some, None, slice_get, false}
+use Rattle.std.specs.Prelude.{◌≡◌, ◌<◌, ℕ, List, Some, slice_get, false}
 use Rattle.weighted_relations.specs.Expressions.{Expression, IsSound, is_marked}
-use Rattle.weighted_relations.specs.Machines.{Machine, Reads}
-use Rattle.weighted_relations.specs.Relations.{Cascade, IsUnmarked, Relation}
-use Rattle.state_tuples.specs.Cascades.{Cascaded}
+use Rattle.weighted_relations.specs.Relations.{Relation}
 use Rattle.grammar_build.specs.Empties.{RewritesEmptyText}
+use Rattle.shared_cascade.specs.Callers.{cascades_in}
+use Rattle.normaliser.specs.Cascades.{relation_at}
 use Rattle.normaliser.specs.declared.faults.LoadFault.{LoadFault}
 use Rattle.normaliser.specs.declared.faults.LoadFault.TheVariants.{RewritesEmpty, Memory}
-
--- the transducers of the classifier and of the verbaliser, from the first to the last
-pub record Normalised : Type 0 where
-  pub classifier : List Machine
-  pub verbaliser : List Machine
+use Rattle.normaliser.specs.declared.normalisers.Normaliser.{Normaliser}
 
 -- the relation of the classifier, and of the verbaliser
-abbrev pub classifier_of : Normalised → Relation
-classifier_of n = Cascade Reads n.classifier
+abbrev pub classifier_of : Normaliser → Relation
+classifier_of n = relation_at 0 (cascades_in n.shared)
 
-abbrev pub verbaliser_of : Normalised → Relation
-verbaliser_of n = Cascade Reads n.verbaliser
-
--- neither reads or writes a mark
-pub record AreUnmarked (n : Normalised) : Type 0 where
-  pub classifier : IsUnmarked (classifier_of n)
-  pub verbaliser : IsUnmarked (verbaliser_of n)
-
--- the parts of a cascade that may not be there
-abbrev pub parts_of : Option Cascaded → List Machine
-parts_of None = []
-parts_of (Some c) = c.parts
+abbrev pub verbaliser_of : Normaliser → Relation
+verbaliser_of n = relation_at 1 (cascades_in n.shared)
 
 -- an expression that a transducer can be built for
 pub record CanBeBuilt (e : Expression) : Type 0 where

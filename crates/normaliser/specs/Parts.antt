@@ -4,8 +4,7 @@ use Rattle.std.specs.declared.alloc.Global.{Global}
 use Rattle.weighted_relations.specs.Expressions.{Expression, Rel}
 use Rattle.weighted_relations.specs.Least.{Least}
 use Rattle.weighted_relations.specs.Machines.{Machine, Reads}
-use Rattle.weighted_relations.specs.Relations.{Cascade, Relation, Same}
-use Rattle.state_tuples.specs.Cascades.{Cascaded}
+use Rattle.weighted_relations.specs.Relations.{Relation, Same}
 use Rattle.grammar_build.specs.Empties.{RewritesEmptyText}
 use Rattle.normaliser.specs.Loads.{IsFirstEmpty}
 use Rattle.token_record.specs.Meaning.{TokenTree, token_trees}
@@ -38,10 +37,6 @@ IsEmptyRule number e load.Memory = Unit {0}
 abbrev pub IsFaultAfter : ℕ → List Expression → LoadFault → Type 0
 IsFaultAfter before es (load.RewritesEmpty rule) = (k : ℕ) × (rule ≡ before + k) × IsFirstEmpty es k
 IsFaultAfter before es load.Memory = Unit {0}
-
--- the readings of a cascade's parts, one after another
-abbrev pub ReadsOf : Cascaded → Relation
-ReadsOf c = Cascade Reads c.parts
 
 -- the output of the least reading at one of the inputs, or none where there is none
 abbrev pub IsOutput : Relation → (List ℕ → Type 0) → Option (Vec ℕ Global) → Type 0

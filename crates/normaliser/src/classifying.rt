@@ -1,14 +1,18 @@
 //! What the classifier says of a line.
 
-ghost use Rattle.std.specs.Prelude.{◌≡◌, ◌≤◌, All, IfNone, IfOk, IfSome, length};
-ghost use Rattle.weighted_relations.specs.Relations.{IsLabel, IsUnmarked};
+ghost use Rattle.std.specs.Prelude.{◌≡◌, ◌≤◌, All, IfNone, IfOk, IfSome, OnErr, OnOk, length};
+ghost use Rattle.shared_cascade.specs.Callers.{IsReady};
+ghost use Rattle.weighted_relations.specs.Relations.{IsLabel};
 ghost use Rattle.normaliser.specs.Lines.{HasNoZero};
-ghost use Rattle.normaliser.specs.Parts.{IsOutput, IsUnsearched, ReadsOf};
+ghost use Rattle.normaliser.specs.Loads.{classifier_of};
+ghost use Rattle.normaliser.specs.Parts.{IsOutput, IsUnsearched};
+ghost use Rattle.normaliser.specs.Searches.{Searched, Stopped};
 
 use crate::faults::LineFault;
+use crate::normalisers::Normaliser;
 use crate::searching::output_of;
 use fst_core::text;
-use state_tuples::Cascade;
+use shared_cascade::Caller;
 use std::alloc::{AllocError, Global};
 
 /// How many bytes a line may have.
@@ -29,18 +33,24 @@ pub(crate) fn fault_of(line: &[u8]) -> Option<LineFault>
     None
 }
 
-/// The output of the least reading of a line, if there is one.
-pub(crate) fn classified(
-    alloc: Global,
-    classifier: &Cascade,
-    line: &[u8],
-) -> Result<Option<Vec<u8>>, AllocError>
-    requires unmarked { IsUnmarked (ReadsOf classifier.now) }
-    requires no_zero { HasNoZero line.now }
-    ensures { IfOk result (IsOutput (ReadsOf classifier.now) (λ x. x ≡ line.now)) }
-{
-    let source = text(alloc, &labels(alloc, line)?)?;
-    output_of(alloc, classifier, &source)
+impl Normaliser {
+    /// The output of the least reading of a line, if there is one.
+    pub(crate) fn classified(
+        &self,
+        alloc: Global,
+        caller: &mut Caller,
+        line: &[u8],
+    ) -> Result<Option<Vec<u8>>, AllocError>
+        requires ready { IsReady self.now.shared caller.old }
+        requires no_zero { HasNoZero line.now }
+        ensures output { IfOk result (IsOutput (classifier_of self.now) (λ x. x ≡ line.now)) }
+        ensures ready { IsReady self.now.shared caller.new }
+        ensures searched { OnOk result (Searched self.now.shared caller.old caller.new) }
+        ensures stopped { OnErr result (Stopped self.now.shared caller.old caller.new) }
+    {
+        let source = text(alloc, &labels(alloc, line)?)?;
+        output_of(alloc, &self.shared, caller, &self.classifier, &source)
+    }
 }
 
 /// The bytes of a line as labels.

@@ -1,24 +1,37 @@
 //! What a normaliser says of a line.
 
-ghost use Rattle.std.specs.Prelude.{All, IfOk};
+ghost use Rattle.std.specs.Prelude.{◌≡◌, All, IfOk, List};
+ghost use Rattle.place_words.specs.declared.view.Entry.{Entry};
+ghost use Rattle.shared_cascade.specs.Sweeps.{AreRounds, SweptBy, nothing_swept};
 ghost use Rattle.token_record.specs.Meaning.{token_tree};
 ghost use Rattle.token_record.specs.Writable.{TokenHasNoZero};
-ghost use Rattle.normaliser.specs.Lines.{Classified, IsSaid};
+ghost use Rattle.normaliser.specs.Lines.{Classified, IsSaid, IsSearched};
 ghost use Rattle.normaliser.specs.Loads.{classifier_of, verbaliser_of};
 ghost use Rattle.normaliser.specs.Parts.{AreTokens};
+ghost use Rattle.normaliser.specs.Searches.{Did, IsCallerOf, places_of};
 ghost use Rattle.normaliser.specs.Words.{Words};
 
-use crate::classifying::{classified, fault_of};
+use crate::classifying::fault_of;
 use crate::faults::LineFault;
 use crate::normalisers::{Normaliser, Spoken};
+use shared_cascade::{Caller, Swept};
 use std::alloc::Global;
 use token_record::{Token, TokenFault, read_tokens};
 
 impl Normaliser {
     /// The classifier's output for a line, or the first of the line's faults `NulByte`, `LongLine` and `NoPath`. An empty line gives
     /// no bytes and isn't searched.
-    pub fn classify_line(&self, alloc: Global, line: &[u8]) -> Result<Spoken, LineFault>
-        ensures { IsSaid (Classified (classifier_of self.now)) line.now result }
+    pub fn classify_line(
+        &self,
+        alloc: Global,
+        caller: &mut Caller,
+        line: &[u8],
+    ) -> Result<Spoken, LineFault>
+        requires ready { IsCallerOf self.now caller.old }
+        ensures said { IsSaid (Classified (classifier_of self.now)) line.now result }
+        ensures ready { IsCallerOf self.now caller.new }
+        ensures searched { Did self.now.shared caller.old caller.new result }
+        ensures kept { (IsSearched line.now → ⊥) → caller.new ≡ caller.old }
     {
         if line.is_empty() {
             return Ok(Spoken {
@@ -28,7 +41,7 @@ impl Normaliser {
         if let Some(fault) = fault_of(line) {
             return Err(fault);
         }
-        match classified(alloc, &self.classifier, line)? {
+        match self.classified(alloc, caller, line)? {
             Some(words) => Ok(Spoken { words }),
             None => Err(LineFault::NoPath),
         }
@@ -36,18 +49,36 @@ impl Normaliser {
 
     /// The words of a line, or its first fault. The words of its tokens that have at least one byte are joined by single spaces. An
     /// empty line gives no bytes and isn't searched.
-    pub fn speak_line(&self, alloc: Global, line: &[u8]) -> Result<Spoken, LineFault>
-        ensures { IsSaid (Words (classifier_of self.now) (verbaliser_of self.now)) line.now result }
+    pub fn speak_line(
+        &self,
+        alloc: Global,
+        caller: &mut Caller,
+        line: &[u8],
+    ) -> Result<Spoken, LineFault>
+        requires ready { IsCallerOf self.now caller.old }
+        ensures said { IsSaid (Words (classifier_of self.now) (verbaliser_of self.now)) line.now result }
+        ensures ready { IsCallerOf self.now caller.new }
+        ensures searched { Did self.now.shared caller.old caller.new result }
+        ensures kept { (IsSearched line.now → ⊥) → caller.new ≡ caller.old }
     {
         if line.is_empty() {
             return Ok(Spoken {
                 words: Vec::new(alloc),
             });
         }
-        let text = self.classify_line(alloc, line)?.words;
+        let text = self.classify_line(alloc, caller, line)?.words;
         let tokens = tokens_of(alloc, &text)?;
-        let words = self.words_of(alloc, &tokens)?;
+        let words = self.words_of(alloc, caller, &tokens)?;
         Ok(Spoken { words })
+    }
+
+    /// Empties each place of the table in order, so many times over. It takes no memory, and the caller's tally has nothing of it.
+    pub fn sweep(&self, caller: &mut Caller, rounds: u32) -> Swept
+        requires ready { IsCallerOf self.now caller.old }
+        ensures ready { IsCallerOf self.now caller.new }
+        ensures swept { (es : List Entry) × AreRounds (places_of self.now) rounds es × SweptBy self.now.shared caller.old caller.new es nothing_swept result }
+    {
+        self.shared.sweep(caller, rounds)
     }
 }
 

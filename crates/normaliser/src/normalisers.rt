@@ -1,25 +1,25 @@
-//! A classifier and a verbaliser.
+//! A classifier and a verbaliser over one table.
 
-use state_tuples::Cascade;
-use std::marker::Model;
+ghost use Rattle.normaliser.specs.Cascades.{AreUnmarked, Begins};
+ghost use Rattle.shared_cascade.specs.Callers.{cascades_in};
 
-/// A classifier and a verbaliser, each as a cascade that isn't composed: a search makes what it needs of it.
+use shared_cascade::Shared;
+use state_tuples::Tuple;
+
+/// A classifier and a verbaliser, each as a cascade that isn't composed: a search makes what it needs of it, and what it makes is kept in a
+/// table that callers share.
 ///
-/// Without rules for the verbaliser there is none, and no record has words.
+/// Without rules for the verbaliser it is a cascade that reads nothing, and no record has words.
 #[derive(Drop)]
 pub struct Normaliser {
-    pub(crate) classifier: Cascade,
-    pub(crate) verbaliser: Option<Cascade>,
-}
-
-impl Model for Normaliser {
-    ghost use Rattle.normaliser.specs.Loads.{AreUnmarked, Normalised, parts_of};
-
-    ghost Value = { Normalised };
-
-    ghost view = { λ n. record { classifier = n.classifier.parts; verbaliser = parts_of n.verbaliser } };
-
-    ghost invariant = { λ n. AreUnmarked (record { classifier = n.classifier.parts; verbaliser = parts_of n.verbaliser }) };
+    pub(crate) shared: Shared,
+    /// Where the classifier begins.
+    pub(crate) classifier: Tuple,
+    /// Where the verbaliser begins.
+    pub(crate) verbaliser: Tuple,
+    ghost unmarked: { AreUnmarked (cascades_in shared) },
+    ghost classifying: { Begins (cascades_in shared) 0 classifier },
+    ghost verbalising: { Begins (cascades_in shared) 1 verbaliser },
 }
 
 /// What is said of a line.

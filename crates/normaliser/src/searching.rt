@@ -1,27 +1,59 @@
 //! The least reading of a cascade.
 
-ghost use Rattle.std.specs.Prelude.{IfOk};
+ghost use Rattle.std.specs.Prelude.{IfOk, OnErr, OnOk, ℕ};
+ghost use Rattle.std.specs.Option.{option_map};
+ghost use Rattle.least_path.specs.Starting.{IsLeastFrom};
 ghost use Rattle.weighted_relations.specs.Machines.{Reads};
 ghost use Rattle.weighted_relations.specs.Relations.{IsInput, IsUnmarked};
-ghost use Rattle.normaliser.specs.Parts.{IsOutput, ReadsOf};
+ghost use Rattle.shared_cascade.specs.Callers.{IsReady, cascades_in};
+ghost use Rattle.shared_cascade.specs.Hands.{IsStill};
+ghost use Rattle.normaliser.specs.Cascades.{Begins, relation_at};
+ghost use Rattle.normaliser.specs.Parts.{IsOutput};
+ghost use Rattle.normaliser.specs.Searches.{Searched, Stopped};
 
 use fst_core::Fst;
-use least_path::least;
-use state_tuples::{Cascade, Private};
+use least_path::{Least, least};
+use shared_cascade::{Caller, Hand, Shared};
+use state_tuples::Tuple;
 use std::alloc::{AllocError, Global};
 
-/// The output of the least reading of a cascade at the inputs of a source, if there is one.
+/// The output of the least reading of the cascade that begins at a tuple, at the inputs of a source, if there is one.
 pub(crate) fn output_of(
     alloc: Global,
-    cascade: &Cascade,
+    shared: &Shared,
+    caller: &mut Caller,
+    start: &Tuple,
     source: &Fst,
 ) -> Result<Option<Vec<u8>>, AllocError>
-    requires { IsUnmarked (ReadsOf cascade.now) }
-    ensures { IfOk result (IsOutput (ReadsOf cascade.now) (IsInput (Reads source.now))) }
+    requires ready { IsReady shared.now caller.old }
+    requires begins { (n : ℕ) × Begins (cascades_in shared.now) n start.now × IsUnmarked (relation_at n (cascades_in shared.now)) }
+    ensures output { (n : ℕ) → Begins (cascades_in shared.now) n start.now → IfOk result (IsOutput (relation_at n (cascades_in shared.now)) (IsInput (Reads source.now))) }
+    ensures ready { IsReady shared.now caller.new }
+    ensures searched { OnOk result (Searched shared.now caller.old caller.new) }
+    ensures stopped { OnErr result (Stopped shared.now caller.old caller.new) }
 {
-    let start = cascade.start();
-    match least(alloc, source, &mut Private::new(alloc, cascade), &start)? {
-        Some(found) => Ok(Some(found.output)),
-        None => Ok(None),
+    let mut hand = Hand { shared, caller };
+    match least_by(alloc, source, &mut hand, start) {
+        Ok(Some(found)) => Ok(Some(found.output)),
+        Ok(None) => Ok(None),
+        Err(e) => Err(e),
     }
+}
+
+/// The least reading of the cascade that begins at a tuple, by a hand at the table. It stays at that table, and holds the same caller.
+fn least_by(
+    alloc: Global,
+    source: &Fst,
+    hand: &mut Hand<'_>,
+    start: &Tuple,
+) -> Result<Option<Least>, AllocError>
+    requires ready { IsReady hand.old.shared.now hand.old.caller.now }
+    requires begins { (n : ℕ) × Begins (cascades_in hand.old.shared.now) n start.now × IsUnmarked (relation_at n (cascades_in hand.old.shared.now)) }
+    ensures least { IfOk result (λ answer. IsLeastFrom source.now (cascades_in hand.old.shared.now) start.now (option_map (λ l. (l.weight, l.output.items)) answer)) }
+    ensures ready { IsReady hand.new.shared.now hand.new.caller.now }
+    ensures still { IsStill hand.old hand.new }
+    ensures searched { OnOk result (Searched hand.old.shared.now hand.old.caller.now hand.new.caller.now) }
+    ensures stopped { OnErr result (Stopped hand.old.shared.now hand.old.caller.now hand.new.caller.now) }
+{
+    least(alloc, source, hand, start)
 }

@@ -1,18 +1,21 @@
 //! The words of tokens.
 
-ghost use Rattle.std.specs.Prelude.{◌≡◌, ◌↔◌, All, IfNone, IfOk, IfSome, IsTrue, OnOk};
+ghost use Rattle.std.specs.Prelude.{◌≡◌, ◌↔◌, All, IfNone, IfOk, IfSome, IsTrue, OnErr, OnOk};
 ghost use Rattle.token_record.specs.Fields.{fields_of};
 ghost use Rattle.token_record.specs.Meaning.{token_tree, token_trees};
 ghost use Rattle.token_record.specs.Writable.{TokenHasNoZero};
 ghost use Rattle.field_orders.specs.Orders.{IsOrderable, Orders};
 ghost use Rattle.normaliser.specs.Loads.{verbaliser_of};
 ghost use Rattle.normaliser.specs.Parts.{IsOutput, IsPut, IsTold, with_words};
+ghost use Rattle.normaliser.specs.Searches.{Did, Searched, Stopped};
 ghost use Rattle.normaliser.specs.Words.{HasTooMany, IsFirst, NoneIs, TokensSay};
+ghost use Rattle.shared_cascade.specs.Callers.{IsReady};
 
 use crate::faults::LineFault;
 use crate::normalisers::Normaliser;
 use crate::searching::output_of;
 use field_orders::orders;
+use shared_cascade::Caller;
 use std::alloc::{AllocError, Global};
 use token_record::{Record, Token, field_count};
 
@@ -21,25 +24,41 @@ const MOST_FIELDS: u64 = 10;
 
 impl Normaliser {
     /// The words of tokens, or the first fault among them.
-    pub(crate) fn words_of(&self, alloc: Global, tokens: &[Token]) -> Result<Vec<u8>, LineFault>
-        requires { All (λ t. TokenHasNoZero (token_tree t)) tokens.now }
-        ensures { IsTold (TokensSay (verbaliser_of self.now) (token_trees tokens.now)) result }
+    pub(crate) fn words_of(
+        &self,
+        alloc: Global,
+        caller: &mut Caller,
+        tokens: &[Token],
+    ) -> Result<Vec<u8>, LineFault>
+        requires ready { IsReady self.now.shared caller.old }
+        requires no_zero { All (λ t. TokenHasNoZero (token_tree t)) tokens.now }
+        ensures told { IsTold (TokensSay (verbaliser_of self.now) (token_trees tokens.now)) result }
+        ensures ready { IsReady self.now.shared caller.new }
+        ensures searched { Did self.now.shared caller.old caller.new result }
     {
         if let Some(token) = first_too_large(tokens) {
             return Err(LineFault::TooManyFields { token });
         }
-        self.joined(alloc, tokens)
+        self.joined(alloc, caller, tokens)
     }
 
     /// The words of tokens, joined by single spaces, or the first token without words.
-    fn joined(&self, alloc: Global, tokens: &[Token]) -> Result<Vec<u8>, LineFault>
+    fn joined(
+        &self,
+        alloc: Global,
+        caller: &mut Caller,
+        tokens: &[Token],
+    ) -> Result<Vec<u8>, LineFault>
+        requires ready { IsReady self.now.shared caller.old }
         requires no_zero { All (λ t. TokenHasNoZero (token_tree t)) tokens.now }
         requires few { NoneIs HasTooMany (token_trees tokens.now) }
-        ensures { IsTold (TokensSay (verbaliser_of self.now) (token_trees tokens.now)) result }
+        ensures told { IsTold (TokensSay (verbaliser_of self.now) (token_trees tokens.now)) result }
+        ensures ready { IsReady self.now.shared caller.new }
+        ensures searched { Did self.now.shared caller.old caller.new result }
     {
         let mut words = Vec::new(alloc);
         for (i, token) in tokens.iter().enumerate() {
-            if !self.put_words(alloc, token, &mut words)? {
+            if !self.put_words(alloc, caller, token, &mut words)? {
                 return Err(LineFault::NoWords {
                     token: i as u64 + 1,
                 });
@@ -52,12 +71,17 @@ impl Normaliser {
     fn put_words(
         &self,
         alloc: Global,
+        caller: &mut Caller,
         token: &Token,
         words: &mut Vec<u8>,
     ) -> Result<bool, AllocError>
+        requires ready { IsReady self.now.shared caller.old }
         requires no_zero { TokenHasNoZero (token_tree token.now) }
         requires few { HasTooMany (token_tree token.now) → ⊥ }
-        ensures { IfOk result (IsPut (verbaliser_of self.now) (token_tree token.now) words.old.items words.new.items) }
+        ensures put { IfOk result (IsPut (verbaliser_of self.now) (token_tree token.now) words.old.items words.new.items) }
+        ensures ready { IsReady self.now.shared caller.new }
+        ensures searched { OnOk result (Searched self.now.shared caller.old caller.new) }
+        ensures stopped { OnErr result (Stopped self.now.shared caller.old caller.new) }
     {
         match token {
             Token::Spoken(own) => {
@@ -65,7 +89,7 @@ impl Normaliser {
                 Ok(true)
             }
             Token::Silent => Ok(true),
-            Token::Class(record) => match self.verbalised(alloc, record)? {
+            Token::Class(record) => match self.verbalised(alloc, caller, record)? {
                 Some(own) => {
                     join(words, &own)?;
                     Ok(true)
@@ -76,15 +100,21 @@ impl Normaliser {
     }
 
     /// The output of the verbaliser's least reading over all texts of a record, if there is one.
-    fn verbalised(&self, alloc: Global, r: &Record) -> Result<Option<Vec<u8>>, AllocError>
-        requires { IsOrderable r.now }
-        ensures { IfOk result (IsOutput (verbaliser_of self.now) (Orders r.now.class r.now.keep (fields_of r.now.fields.items))) }
+    fn verbalised(
+        &self,
+        alloc: Global,
+        caller: &mut Caller,
+        r: &Record,
+    ) -> Result<Option<Vec<u8>>, AllocError>
+        requires ready { IsReady self.now.shared caller.old }
+        requires orderable { IsOrderable r.now }
+        ensures output { IfOk result (IsOutput (verbaliser_of self.now) (Orders r.now.class r.now.keep (fields_of r.now.fields.items))) }
+        ensures ready { IsReady self.now.shared caller.new }
+        ensures searched { OnOk result (Searched self.now.shared caller.old caller.new) }
+        ensures stopped { OnErr result (Stopped self.now.shared caller.old caller.new) }
     {
-        let Some(verbaliser) = &self.verbaliser else {
-            return Ok(None);
-        };
         let texts = orders(alloc, r)?;
-        output_of(alloc, verbaliser, &texts)
+        output_of(alloc, &self.shared, caller, &self.verbaliser, &texts)
     }
 }
 

@@ -1,6 +1,6 @@
 //! Faults: which rules are refused, and what is printed.
 
-use crate::rules::loaded;
+use crate::rules::refusal;
 use normaliser::{LineFault, LoadFault};
 use std::test::Fail;
 
@@ -23,15 +23,11 @@ const REFUSED: [Row; 5] = [
 fn rules_that_are_refused(rt: HostRuntime) -> Result<(), Fail> {
     let alloc = rt.alloc();
     for (row, (classifier, verbaliser, rule)) in REFUSED.iter().enumerate() {
-        match loaded(alloc, *classifier, *verbaliser)? {
-            Err(fault) => {
-                assert!(rt;
-                    fault == LoadFault::RewritesEmpty { rule: *rule },
-                    "row {row}"
-                )
-            }
-            Ok(_) => assert!(rt; false, "row {row}"),
-        }
+        let fault = refusal(alloc, *classifier, *verbaliser)?;
+        assert!(rt;
+            fault == Some(LoadFault::RewritesEmpty { rule: *rule }),
+            "row {row}"
+        );
     }
     Ok(())
 }

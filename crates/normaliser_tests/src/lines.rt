@@ -1,6 +1,6 @@
 //! What lines say.
 
-use crate::rules::loaded;
+use crate::rules::{Prepared, ready_for};
 use normaliser::{LineFault, Spoken};
 use std::alloc::{AllocError, Global};
 use std::test::Fail;
@@ -248,22 +248,80 @@ const ROWS: [Row; 28] = [
 fn lines(rt: HostRuntime) -> Result<(), Fail> {
     let alloc = rt.alloc();
     for (row, (classifier, verbaliser, line, classified, words)) in ROWS.iter().enumerate() {
-        let Ok(normaliser) = loaded(alloc, *classifier, *verbaliser)? else {
-            return Err("rules that are refused")?;
-        };
-        let answer = normaliser.classify_line(alloc, line.as_bytes());
-        assert_eq!(rt;
-            told(alloc, &answer)?.as_slice(),
-            classified.as_bytes(),
-            "row {row}"
-        );
-        let answer = normaliser.speak_line(alloc, line.as_bytes());
-        assert_eq!(rt;
-            told(alloc, &answer)?.as_slice(),
-            words.as_bytes(),
-            "row {row}"
-        );
+        for places in [1, 7] {
+            let Prepared {
+                normaliser,
+                mut caller,
+            } = ready_for(alloc, *classifier, *verbaliser, places)?;
+            let answer = normaliser.classify_line(alloc, &mut caller, line.as_bytes());
+            assert_eq!(rt;
+                told(alloc, &answer)?.as_slice(),
+                classified.as_bytes(),
+                "row {row}"
+            );
+            let answer = normaliser.speak_line(alloc, &mut caller, line.as_bytes());
+            assert_eq!(rt;
+                told(alloc, &answer)?.as_slice(),
+                words.as_bytes(),
+                "row {row}"
+            );
+        }
     }
+    Ok(())
+}
+
+/// The second of two equal lines finds all that it looks for, unless the table was swept between them.
+#[test]
+fn expansions_are_kept(rt: HostRuntime) -> Result<(), Fail> {
+    let alloc = rt.alloc();
+    let classifier = "export MAIN = (\"a\" : \"tokens { c { d: \\\"1\\\" } }\");";
+    let verbaliser = "export MAIN = (\"c|d:1|\" : \"said\");";
+    let Prepared {
+        normaliser,
+        mut caller,
+    } = ready_for(
+        alloc,
+        [classifier].as_slice(),
+        [verbaliser].as_slice(),
+        4096,
+    )?;
+    let answer = normaliser.speak_line(alloc, &mut caller, b"a");
+    assert_eq!(rt; told(alloc, &answer)?.as_slice(), b"= said".as_slice());
+    let first = caller.take_tally();
+    let answer = normaliser.speak_line(alloc, &mut caller, b"a");
+    assert_eq!(rt; told(alloc, &answer)?.as_slice(), b"= said".as_slice());
+    let second = caller.take_tally();
+    assert_eq!(rt; normaliser.sweep(&mut caller, 1).was > 0, true);
+    let answer = normaliser.speak_line(alloc, &mut caller, b"a");
+    assert_eq!(rt; told(alloc, &answer)?.as_slice(), b"= said".as_slice());
+    let third = caller.take_tally();
+    assert_eq!(rt; first.absent > 0, true);
+    assert_eq!(rt; second.absent, 0);
+    assert_eq!(rt; second.shown, second.looks);
+    assert_eq!(rt; third, first);
+    Ok(())
+}
+
+/// Lines that aren't searched make no look.
+#[test]
+fn no_looks(rt: HostRuntime) -> Result<(), Fail> {
+    let alloc = rt.alloc();
+    let Prepared {
+        normaliser,
+        mut caller,
+    } = ready_for(
+        alloc,
+        ["export MAIN = \"a\"*;"].as_slice(),
+        [].as_slice(),
+        7,
+    )?;
+    let long = vec![in alloc; b'a'; 16_385]?;
+    let _empty = normaliser.speak_line(alloc, &mut caller, b"");
+    let _zero = normaliser.speak_line(alloc, &mut caller, b"a\0");
+    let _long = normaliser.speak_line(alloc, &mut caller, &long);
+    assert_eq!(rt; caller.take_tally().looks, 0);
+    let _answer = normaliser.speak_line(alloc, &mut caller, b"aa");
+    assert_eq!(rt; caller.take_tally().looks >= 3, true);
     Ok(())
 }
 
@@ -284,14 +342,15 @@ fn told(alloc: Global, answer: &Result<Spoken, LineFault>) -> Result<Vec<u8>, Al
 fn long_lines(rt: HostRuntime) -> Result<(), Fail> {
     let alloc = rt.alloc();
     let classifier = "export MAIN = (\"a\" : \"\")* (\"\" : \"tokens{name:a}\");";
-    let Ok(normaliser) = loaded(alloc, [classifier].as_slice(), [].as_slice())? else {
-        return Err("rules that are refused")?;
-    };
+    let Prepared {
+        normaliser,
+        mut caller,
+    } = ready_for(alloc, [classifier].as_slice(), [].as_slice(), 256)?;
     let mut line = vec![in alloc; b'a'; 16_384]?;
-    let answer = normaliser.speak_line(alloc, &line);
+    let answer = normaliser.speak_line(alloc, &mut caller, &line);
     assert_eq!(rt; told(alloc, &answer)?.as_slice(), b"= a".as_slice());
     line.push(b'a')?;
-    let answer = normaliser.speak_line(alloc, &line);
+    let answer = normaliser.speak_line(alloc, &mut caller, &line);
     assert_eq!(rt; told(alloc, &answer)?.as_slice(), b"LongLine".as_slice());
     Ok(())
 }

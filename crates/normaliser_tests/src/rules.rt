@@ -1,29 +1,71 @@
 //! Normalisers of small grammars.
 
-ghost use Rattle.std.specs.Prelude.{All, IfOk, map};
+ghost use Rattle.std.specs.Prelude.{◌≡◌, ◌≤◌, All, IfOk, length, map};
 ghost use Rattle.core_expressions.specs.Views.{expression_of};
 ghost use Rattle.normaliser.specs.Loads.{CanBeBuilt};
+ghost use Rattle.normaliser.specs.Searches.{IsCallerOf, IsNewCallerOf};
 
 use core_expressions::Expr;
 use norm_base::{Name, SureShelf};
-use normaliser::{LoadFault, Normaliser, load};
+use normaliser::{Caller, LoadFault, Normaliser, load};
 use state_tuples::MOST_PARTS;
 use std::alloc::Global;
 use std::test::Fail;
 use thrax_link::link;
 
-/// The normaliser of the rules that these grammars export as `MAIN`, or why there is none.
-pub fn loaded(
+/// A normaliser, and its one caller.
+#[derive(Drop)]
+pub struct Prepared {
+    pub normaliser: Normaliser,
+    pub caller: Caller,
+}
+
+/// The normaliser of the rules that these grammars export as `MAIN`. Its table has so many places.
+pub fn ready_for(
     alloc: Global,
     classifier: &[&str],
     verbaliser: &[&str],
-) -> Result<Result<Normaliser, LoadFault>, Fail> {
+    places: u32,
+) -> Result<Prepared, Fail>
+    requires { (1 ≤ places) × (places ≤ 4096) }
+    ensures { IfOk result (λ p. IsCallerOf p.normaliser p.caller) }
+{
     let classifier = rules(alloc, classifier)?;
     let verbaliser = rules(alloc, verbaliser)?;
     if classifier.is_empty() || classifier.len() > MOST_PARTS || verbaliser.len() > MOST_PARTS {
         return Err("a cascade of too many rules, or of none")?;
     }
-    Ok(load(alloc, &classifier, &verbaliser))
+    match load(alloc, &classifier, &verbaliser, places, 1) {
+        Ok((normaliser, callers)) => Ok(with_its_caller(normaliser, callers)),
+        Err(_) => Err("rules that are refused")?,
+    }
+}
+
+/// A normaliser with its one caller.
+fn with_its_caller(normaliser: Normaliser, mut callers: Vec<Caller>) -> Prepared
+    requires one { length callers.items ≡ 1 }
+    requires ready { All (IsNewCallerOf normaliser) callers.items }
+    ensures ready { IsCallerOf result.normaliser result.caller }
+{
+    let caller = callers.pop().unwrap();
+    Prepared { normaliser, caller }
+}
+
+/// Why there is no normaliser of the rules that these grammars export as `MAIN`, if there is none.
+pub fn refusal(
+    alloc: Global,
+    classifier: &[&str],
+    verbaliser: &[&str],
+) -> Result<Option<LoadFault>, Fail> {
+    let classifier = rules(alloc, classifier)?;
+    let verbaliser = rules(alloc, verbaliser)?;
+    if classifier.is_empty() || classifier.len() > MOST_PARTS || verbaliser.len() > MOST_PARTS {
+        return Err("a cascade of too many rules, or of none")?;
+    }
+    match load(alloc, &classifier, &verbaliser, 1, 1) {
+        Ok(_) => Ok(None),
+        Err(fault) => Ok(Some(fault)),
+    }
 }
 
 /// The rules that grammars export as `MAIN`.

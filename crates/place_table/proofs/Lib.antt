@@ -1,6 +1,7 @@
 pub mod Runs
 pub mod Looking
 pub mod Agreeing
+pub mod Counted
 pub mod Writing
 pub mod Alone
 pub mod Order

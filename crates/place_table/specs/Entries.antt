@@ -1,10 +1,10 @@
 -- Runs of entries in the log of a seat, and the views after them.
-use Rattle.std.specs.Prelude.{◌≡◌, ℕ, ◌+◌, List, [], ◌∷◌, ◌++◌}
+use Rattle.std.specs.Prelude.{◌≡◌, ℕ, suc, ◌+◌, ◌≤◌, List, [], ◌∷◌, ◌++◌}
 use Rattle.place_words.specs.declared.view.Read.{Read}
 use Rattle.place_words.specs.declared.view.View.{View}
 use Rattle.place_words.specs.declared.view.Mode.TheVariants.{Idle, Reading, Writing}
 use Rattle.place_words.specs.declared.view.Entry.{Entry}
-use Rattle.place_words.specs.declared.view.Entry.TheVariants.{Read as ReadWord, Write, Show}
+use Rattle.place_words.specs.declared.view.Entry.TheVariants.{Knock, Leave, Read as ReadWord, TakeEmpty, TakeShown, Write, Show, Empty}
 use Rattle.place_words.specs.Modes.{seen_of}
 
 -- the entries of what was read at the place p
@@ -25,6 +25,34 @@ writes_from p i (x ∷ xs) = Write p i x ∷ writes_from p (i + 1) xs
 -- a code is written at the place p and shown; w is the state word that this found
 abbrev pub fills : ℕ → List ℕ → ℕ → List Entry
 fills p code w = writes_from p 0 code ++ Show p w ∷ []
+
+-- how many reads there are
+abbrev pub reads_in : List Entry → ℕ
+reads_in [] = 0
+reads_in (ReadWord p i w ∷ es) = suc (reads_in es)
+reads_in (Knock p w ∷ es) = reads_in es
+reads_in (Leave p w hit ∷ es) = reads_in es
+reads_in (TakeEmpty p w ∷ es) = reads_in es
+reads_in (TakeShown p w ∷ es) = reads_in es
+reads_in (Write p i w ∷ es) = reads_in es
+reads_in (Show p w ∷ es) = reads_in es
+reads_in (Empty p w ∷ es) = reads_in es
+
+-- how many reads stand one after the other, up to this entry, where m stand before it
+abbrev pub read_run : ℕ → Entry → ℕ
+read_run m (ReadWord p i w) = suc m
+read_run m (Knock p w) = 0
+read_run m (Leave p w hit) = 0
+read_run m (TakeEmpty p w) = 0
+read_run m (TakeShown p w) = 0
+read_run m (Write p i w) = 0
+read_run m (Show p w) = 0
+read_run m (Empty p w) = 0
+
+-- never more than n reads stand one after the other, where m stand before these
+abbrev pub FewReads : ℕ → ℕ → List Entry → Type 0
+FewReads n m [] = Unit {0}
+FewReads n m (e ∷ es) = (read_run m e ≤ n) × FewReads n (read_run m e) es
 
 module _ {T : Type 0} where
   -- a seat has read these at the place p

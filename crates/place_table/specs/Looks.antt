@@ -13,7 +13,7 @@ use Rattle.place_table.specs.declared.answers.Look.{Look}
 use Rattle.place_table.specs.declared.answers.Look.TheVariants.{Shown, Absent}
 use Rattle.place_table.specs.declared.answers.Find.{Find}
 use Rattle.place_table.specs.declared.answers.Find.TheVariants.{Holding, Absent as NotFound}
-use Rattle.place_table.specs.Entries.{Adds, holds, reads_of, seen_from}
+use Rattle.place_table.specs.Entries.{Adds, FewReads, holds, reads_of, seen_from}
 
 -- the key of a code: its words 1 to 6
 abbrev pub key_in : List ℕ → List ℕ
@@ -68,13 +68,19 @@ module _ {T : Type 0} (right : T → List ℕ → Type 0) where
   IsLook tag key ways into (Shown n) es = (p : ℕ) × ShownLook key ways p (seen_from 0 (take n into)) es × (n ≤ 2048) × right tag (take n into) × (key_in (take n into) ≡ key)
   IsLook tag key ways into (Absent found n) es = AbsentLook key ways found n es
 
-  -- the seat reads the place p, has read these words there, the first seven of a right code, and they tell the key
+  -- The seat reads the place p, and has read these words there, the first seven of a right code. They tell the key, so each right code
+  -- that has them has the key.
   pub record Holds (key : List ℕ) (p : ℕ) (seven : List ℕ) (v v' : View T) (es : List Entry) : Type 0 where
     pub view : v' ≡ holds v p es (seen_from 0 seven)
     pub code : (code : List ℕ) × right v.tag code × Agrees (seen_from 0 seven) code
     pub told : Tells (seen_from 0 seven) key
+    pub own : (code : List ℕ) → right v.tag code → Agrees (seen_from 0 seven) code → key_in code ≡ key
 
-  -- what `find` answers: it is a look, but for the last leave where the key was found
+  -- What `find` answers: it is a look, but for the last leave where the key was found. On no way are more than seven words read.
   abbrev pub IsFind : List ℕ → List ℕ → List ℕ → View T → View T → Find → Type 0
-  IsFind key ways seven v v' (Holding p) = (es : List Entry) × Begun key ways p (seen_from 0 seven) es × Holds key p seven v v' es
-  IsFind key ways seven v v' (NotFound found n) = Adds v v' (AbsentLook key ways found n)
+  IsFind key ways seven v v' (Holding p) = (es : List Entry) × Begun key ways p (seen_from 0 seven) es × Holds key p seven v v' es × FewReads 7 0 es
+  IsFind key ways seven v v' (NotFound found n) = Adds v v' (λ es. AbsentLook key ways found n es × FewReads 7 0 es)
+
+  -- so it is for seven words
+  abbrev pub Finds : List ℕ → List ℕ → View T → View T → Find → Type 0
+  Finds key ways v v' result = (seven : List ℕ) × (length seven ≡ 7) × IsFind key ways seven v v' result

@@ -18,8 +18,9 @@ pub enum Look {
     Absent([Found; 4], u32),
 }
 
-/// The place that the seat reads, or what was found on each way, as in [`Look`].
-pub(crate) enum Find {
+/// The place that the seat reads now, or what was found on each way, as in [`Look`].
+#[derive(Clone, Copy, Debug, PartialEq, Eq)]
+pub enum Find {
     Holding(u32),
     Absent([Found; 4], u32),
 }

@@ -7,7 +7,7 @@ ghost use Rattle.place_words.specs.Seats.{IsSeatOf, fact_of, mode_of, number_of,
 ghost use Rattle.place_words.specs.declared.view.Mode.TheVariants.{Idle};
 ghost use Rattle.place_table.specs.Entries.{Adds};
 ghost use Rattle.place_table.specs.Ways.{way_at, way_count, ways};
-ghost use Rattle.place_table.specs.Looks.{IsLook, key_in};
+ghost use Rattle.place_table.specs.Looks.{Finds, IsLook, key_in};
 ghost use Rattle.place_table.specs.Publishings.{IsPublish};
 ghost use Rattle.place_table.specs.Emptyings.{IsEmptied};
 ghost use Rattle.place_table.specs.Alone.{EmptiedAlone, LookAlone, PublishAlone};
@@ -76,6 +76,18 @@ impl<F: Fact> Table<F> {
             Find::Absent(found, count) => Look::Absent(found, count),
             Find::Holding(_) => Look::Shown(copy_rest(&self.words, seat, into)),
         }
+    }
+
+    /// Looks for a key, and stays at the place where it finds it. The seat reads there, and has read the length of the code and its key. Its
+    /// caller reads what else it wants of the code by [`words`](Table::words), at indices below its length, and then leaves with `hit`.
+    pub fn find(&self, seat: &mut Seat<F>, key: &[u64; 6]) -> Find
+        requires own { IsSeatOf (words_of self.now) seat.old }
+        requires idle { mode_of seat.old ≡ Idle }
+        ensures own { IsSeatOf (words_of self.now) seat.new }
+        ensures find { Finds F.right key.now (ways key.now (places_of (words_of self.now))) (view_of seat.old) (view_of seat.new) result }
+    {
+        let mut seven = [0; 7];
+        find_into(&self.words, seat, key, &mut seven)
     }
 
     /// Puts a code on one of the ways of its key, and shows it there: on the first that is empty, or else on the first

@@ -3,6 +3,7 @@
 mod alone;
 mod calls;
 mod codes;
+mod finding;
 mod hammers;
 mod rows;
 mod ways;

@@ -10,9 +10,10 @@ use Rattle.weighted_relations.specs.Relations.{Same}
 use Rattle.weighted_relations.specs.Machines.{Machine, WellFormed, Reads, final_of}
 use Rattle.fst_core.specs.States.{States, as_machine, with_state, no_states}
 use Rattle.fst_core.proofs.Fits.{no_arc, no_end}
+use Rattle.state_table.specs.Numbers.{Distinct, Numbers}
 use Rattle.reading_first.specs.declared.parts.Part.{Part}
 use Rattle.reading_first.specs.declared.parts.Part.TheVariants.{At}
-use Rattle.reading_first.specs.Shapes.{Added, Fit, RowOf, RowMade, IsSmall, IsShaped}
+use Rattle.reading_first.specs.Shapes.{Fit, RowOf, RowMade, IsSmall, IsShaped}
 use Rattle.reading_first.proofs.Readings.{contains_at, same_readings}
 use Rattle.reading_first.specs.ReadsFirst.{ReadsFirst}
 use Rattle.reading_first.proofs.Chains.{fit_added}
@@ -29,9 +30,9 @@ pub record SoFar (m : Machine) (start : ℕ) (parts : List Part) (b : States) : 
   pub light : (n w : ℕ) → n < length b.arcs → final_of b.finals n ≡ Some w → w < 2 ^ 54
   pub fit : Fit m parts
 
-pub none_so_far : (m : Machine) (start : ℕ) (none parts : List Part) (b : States) (s : ℕ) → none ≡ [] → WellFormed m → s ≡ m.start → Added none parts (At s) start → b ≡ no_states → SoFar m start parts b
-none_so_far m start none parts b s empty wf same add is =
-    let first : Added [] parts (At m.start) start = subst (λ n. Added [] parts (At n) start) same (subst (λ o. Added o parts (At s) start) empty add) in
+pub none_so_far : (m : Machine) (start : ℕ) (none parts : List Part) (b : States) (s : ℕ) → none ≡ [] → WellFormed m → s ≡ m.start → Distinct parts → Numbers none parts (At s) start → b ≡ no_states → SoFar m start parts b
+none_so_far m start none parts b s empty wf same distinct add is =
+    let first : Numbers [] parts (At m.start) start = subst (λ n. Numbers [] parts (At n) start) same (subst (λ o. Numbers o parts (At s) start) empty add) in
     subst (SoFar m start parts) (sym is) (record {
       even = refl;
       count = omega arith;
@@ -39,7 +40,7 @@ none_so_far m start none parts b s empty wf same add is =
       rows = λ n p l h. absurd (omega (arith, l));
       small = λ n x l h. absurd (omega (arith, l));
       light = λ n w l h. absurd (omega (arith, l));
-      fit = fit_added m [] parts (At m.start) start (λ i p h. absurd (let f : None ≡ Some p = h in cc)) first wf.start;
+      fit = fit_added m [] parts (At m.start) start (λ i p h. absurd (let f : None ≡ Some p = h in cc)) distinct first wf.start;
     })
 
 module _ (m : Machine) (start : ℕ) (old new : List Part) (b : States) (n : ℕ) (p : Part) (row : List Arc) (last : Option ℕ) (had : SoFar m start old b) (at : n ≡ length b.arcs) (there : slice_get old n ≡ Some p) (made : RowMade m old new p row last) where
@@ -48,18 +49,18 @@ module _ (m : Machine) (start : ℕ) (old new : List Part) (b : States) (n : ℕ
   was k q l h =
       let i : n < length old = slice_get_within old n p there in
       let o = slice_get-get_or old k p (let k : k < length old = omega arith in k) in
-      o ∙ (sym (made.keeps k (get_or old k p) o) ∙ h)
+      o ∙ (sym (made.keeps.kept k (get_or old k p) o) ∙ h)
 
   pub more_so_far : SoFar m start new (with_state b row last)
   more_so_far =
       let even : length b.finals ≡ length b.arcs = had.even in
-      let i : n < length new = slice_get_within new n p (made.keeps n p there) in
+      let i : n < length new = slice_get_within new n p (made.keeps.kept n p there) in
       let arcs : length (b.arcs ++ row ∷ []) ≡ length b.arcs + 1 = length_push b.arcs row in
       let finals : length (b.finals ++ last ∷ []) ≡ length b.finals + 1 = length_push b.finals last in
       record {
         even = omega arith;
         count = omega arith;
-        first = made.keeps start (At m.start) had.first;
+        first = made.keeps.kept start (At m.start) had.first;
         rows = λ k q l h. elim (cases_lt k (length b.arcs)) [
           | inl low ↦
               let o = was k q (let u : k ≤ n = omega arith in u) h in

@@ -4,16 +4,18 @@ use Rattle.std.proofs.Common.{refl, sym, ◌∙◌, ap, subst, inl, inr, arith, 
 use Rattle.std.proofs.lemmas.Option.{slice_get_within}
 use Rattle.weighted_relations.specs.Graphs.{label}
 use Rattle.weighted_relations.specs.Machines.{Machine}
+use Rattle.state_table.specs.Numbers.{Distinct, Keeps, Numbers}
+use Rattle.state_table.proofs.Numbering.{keeps_more, numbers_keeps, numbers_only}
 use Rattle.reading_first.specs.declared.parts.Part.{Part}
 use Rattle.reading_first.specs.declared.parts.Part.TheVariants.{At, Writes, Ended}
 use Rattle.reading_first.specs.declared.expands.Way.{Way}
-use Rattle.reading_first.specs.Shapes.{Before, Keeps, Added, PartFits, Fit}
+use Rattle.reading_first.specs.Shapes.{Before, PartFits, Fit}
 use Rattle.reading_first.specs.Expanding.{TextOf, nothing, more, Written}
 use Rattle.reading_first.proofs.Readings.{regroup, label_some}
 
 pub before_kept : (old new : List Part) → Keeps old new → (n : ℕ) (t : List ℕ) (p : Part) → Before old n t p → Before new n t p
-before_kept old new keeps n [] p b = keeps n p b
-before_kept old new keeps n (l ∷ t) p b = (b.0, keeps n (Writes l b.0) b.1, before_kept old new keeps b.0 t p b.2)
+before_kept old new keeps n [] p b = keeps.kept n p b
+before_kept old new keeps n (l ∷ t) p b = (b.0, keeps.kept n (Writes l b.0) b.1, before_kept old new keeps b.0 t p b.2)
 
 pub before_within : (parts : List Part) (n : ℕ) (t : List ℕ) (p : Part) → Before parts n t p → n < length parts
 before_within parts n [] p b = slice_get_within parts n p b
@@ -24,16 +26,16 @@ part_fits_more m n n' (At q) l h = h
 part_fits_more m n n' (Writes c k) l h = (h.0, h.1, let i : k < n = h.2 in omega arith)
 part_fits_more m n n' Ended l h = tt
 
-pub fit_added : (m : Machine) (old new : List Part) (part : Part) (n : ℕ) → Fit m old → Added old new part n → PartFits m (length new) part → Fit m new
-fit_added m old new part n fit add f i p h = elim (add.only i p h) [
-  | inl k ↦ part_fits_more m (length old) (length new) p add.more (fit i p k)
-  | inr k ↦ subst (PartFits m (length new)) (sym k) f
+pub fit_added : (m : Machine) (old new : List Part) (part : Part) (n : ℕ) → Fit m old → Distinct new → Numbers old new part n → PartFits m (length new) part → Fit m new
+fit_added m old new part n fit distinct add f i p h = elim (numbers_only add distinct i p h) [
+  | inl k ↦ part_fits_more m (length old) (length new) p (keeps_more (numbers_keeps add)) (fit i p k)
+  | inr k ↦ subst (PartFits m (length new)) (sym k.0) f
 ]
 
 -- a label before a text
-pub put_before : (old new : List Part) (first next k : ℕ) → 0 < first → Added old new (Writes first next) k → (t : List ℕ) (p : Part) → Before old next t p → Before new k (label first t) p
+pub put_before : (old new : List Part) (first next k : ℕ) → 0 < first → Numbers old new (Writes first next) k → (t : List ℕ) (p : Part) → Before old next t p → Before new k (label first t) p
 put_before old new first next k some add t p b =
-    subst (λ u. Before new k u p) (sym (label_some first t some)) (next, add.stored, before_kept old new add.kept next t p b)
+    subst (λ u. Before new k u p) (sym (label_some first t some)) (next, add.stored, before_kept old new (numbers_keeps add) next t p b)
 
 -- the text of the way before one
 pub record ShorterText (ways : List Way) (w : Way) (u : List ℕ) : Type 0 where

@@ -8,24 +8,25 @@ use Rattle.std.proofs.lemmas.Option.{slice_get_within}
 use Rattle.weighted_relations.specs.declared.Arc.{Arc}
 use Rattle.weighted_relations.specs.Graphs.{label}
 use Rattle.weighted_relations.specs.Machines.{Machine, IsArc, WellFormed, final_of}
+use Rattle.state_table.specs.Numbers.{Keeps}
+use Rattle.state_table.proofs.Numbering.{keeps_refl, keeps_push, pushed_cases}
 use Rattle.reading_first.specs.declared.parts.Part.{Part}
 use Rattle.reading_first.specs.declared.parts.Part.TheVariants.{At, Ended}
 use Rattle.reading_first.specs.declared.expands.Way.{Way}
 use Rattle.reading_first.specs.Ways.{Silent, here, on, Move, reads, ends}
-use Rattle.reading_first.specs.Shapes.{Keeps, Says, IsMove, Has, Moves, Fit, IsSmall}
+use Rattle.reading_first.specs.Shapes.{Says, IsMove, Has, Moves, Fit, IsSmall}
 use Rattle.reading_first.specs.Expanding.{TextOf, nothing, more, Growing, standing, IsWay, IsFound, IsFollowed, IsDone, Expanding}
-use Rattle.reading_first.proofs.Keys.{pushed_cases, pushed_kept}
 use Rattle.reading_first.proofs.Chains.{before_kept, shorter, first_text}
 
 -- more ways, parts and arcs
 pub record Grown (e : Growing) (parts : List Part) (e' : Growing) (parts' : List Part) : Type 0 where
-  pub ways : (k : ℕ) (w : Way) → slice_get e.ways k ≡ Some w → slice_get e'.ways k ≡ Some w
+  pub ways : Keeps e.ways e'.ways
   pub keeps : Keeps parts parts'
   pub row : (x : Arc) → Contains e.row x → Contains e'.row x
 
-text_kept : (ways ways' : List Way) → ((k : ℕ) (w : Way) → slice_get ways k ≡ Some w → slice_get ways' k ≡ Some w) → {k : ℕ} {u : List ℕ} → TextOf ways k u → TextOf ways' k u
+text_kept : (ways ways' : List Way) → Keeps ways ways' → {k : ℕ} {u : List ℕ} → TextOf ways k u → TextOf ways' k u
 text_kept ways ways' keep nothing = nothing
-text_kept ways ways' keep (more {k} {u} {w} l h told) = more l (keep k w h) (text_kept ways ways' keep told)
+text_kept ways ways' keep (more {k} {u} {w} l h told) = more l (keep.kept k w h) (text_kept ways ways' keep told)
 
 text_same : (ways : List Way) {k k' : ℕ} {u u' : List ℕ} → TextOf ways k u → TextOf ways k' u' → k' ≡ k → u ≡ u'
 text_same ways nothing other e = sym (first_text ways other e)
@@ -51,7 +52,7 @@ module _ (e e' : Growing) (parts parts' : List Part) (g : Grown e parts e' parts
   followed_kept k w a f = record {
     silent = λ z.
         let l = f.silent z in
-        record { place = l.place; way = l.way; is = g.ways l.place l.way l.is; some = l.some; before = l.before; written = l.written; weight = l.weight; state = l.state };
+        record { place = l.place; way = l.way; is = g.ways.kept l.place l.way l.is; some = l.some; before = l.before; written = l.written; weight = l.weight; state = l.state };
     reads = λ some. found_kept k a.input a.output (w.weight + a.weight) (At a.next) (f.reads some);
   }
 
@@ -116,7 +117,7 @@ module _ (m : Machine) (e : Growing) (parts : List Part) (d j : ℕ) (w v : Way)
   with_way = record { from = e.from; ways = e.ways ++ v ∷ []; row = e.row }
 
   way_grown : Grown e parts with_way parts
-  way_grown = record { ways = λ k x h. pushed_kept e.ways v x k h; keeps = λ i p h. h; row = λ x h. h }
+  way_grown = record { ways = keeps_push e.ways v; keeps = keeps_refl parts; row = λ x h. h }
 
   last_there : {X : Type 0} (xs : List X) (y : X) → slice_get (xs ++ y ∷ []) (length xs) ≡ Some y
   last_there [] y = refl
@@ -141,7 +142,7 @@ module _ (m : Machine) (e : Growing) (parts : List Part) (d j : ℕ) (w v : Way)
   pub push_way : Expanding m with_way parts d (j + 1)
   push_way =
       let l : d < length e.ways = slice_get_within e.ways d w at in
-      let was : (k : ℕ) (x : Way) → k ≤ d → slice_get with_way.ways k ≡ Some x → slice_get e.ways k ≡ Some x = λ k x n h. elim (pushed_cases e.ways v x k h) [ inl q ↦ q.1 | inr q ↦ absurd (omega (arith, q.0)) ] in
+      let was : (k : ℕ) (x : Way) → k ≤ d → slice_get with_way.ways k ≡ Some x → slice_get e.ways k ≡ Some x = λ k x n h. elim (pushed_cases e.ways v k x h) [ inl q ↦ q | inr q ↦ absurd (omega (arith, q.1)) ] in
       let followed : IsFollowed with_way parts d w a = record {
         silent = λ z. record {
           place = length e.ways;
@@ -156,23 +157,23 @@ module _ (m : Machine) (e : Growing) (parts : List Part) (d j : ℕ) (w v : Way)
         reads = λ some. absurd (some silent);
       } in
       record {
-        first = pushed_kept e.ways v (standing e.from) 0 had.first;
-        are = λ k x h. elim (pushed_cases e.ways v x k h) [
-          | inl q ↦ way_kept e with_way parts parts way_grown m e.from k x (had.are k x q.1)
-          | inr q ↦ subst (λ k. IsWay m e.from with_way.ways k x) (sym q.0) (subst (IsWay m e.from with_way.ways (length e.ways)) q.1 new_way)
+        first = way_grown.ways.kept 0 (standing e.from) had.first;
+        are = λ k x h. elim (pushed_cases e.ways v k x h) [
+          | inl q ↦ way_kept e with_way parts parts way_grown m e.from k x (had.are k x q)
+          | inr q ↦ subst (λ k. IsWay m e.from with_way.ways k x) (sym q.1) (subst (IsWay m e.from with_way.ways (length e.ways)) (sym q.0) new_way)
         ];
         backwards = record {
-          before = λ k x some h. elim (pushed_cases e.ways v x k h) [
-            | inl q ↦ had.backwards.before k x some q.1
+          before = λ k x some h. elim (pushed_cases e.ways v k x h) [
+            | inl q ↦ had.backwards.before k x some q
             | inr q ↦
-                let b : x.before ≡ d = ap (λ (y : Way). y.before) (sym q.1 ∙ is) in
-                let n : k ≡ length e.ways = q.0 in
+                let b : x.before ≡ d = ap (λ (y : Way). y.before) (q.0 ∙ is) in
+                let n : k ≡ length e.ways = q.1 in
                 let r : x.before < k = omega arith in
                 r
           ];
-          labels = λ k x h. elim (pushed_cases e.ways v x k h) [
-            | inl q ↦ had.backwards.labels k x q.1
-            | inr q ↦ subst (λ o. o ≤ 257) (ap (λ (y : Way). y.written) (sym is ∙ q.1)) (wf.arcs w.state j a arc).output
+          labels = λ k x h. elim (pushed_cases e.ways v k x h) [
+            | inl q ↦ had.backwards.labels k x q
+            | inr q ↦ subst (λ o. o ≤ 257) (ap (λ (y : Way). y.written) (sym (q.0 ∙ is))) (wf.arcs w.state j a arc).output
           ];
         };
         sound = had.sound;
@@ -188,7 +189,7 @@ module _ (m : Machine) (e : Growing) (parts parts' : List Part) (d j : ℕ) (x :
   with_arc = record { from = e.from; ways = e.ways; row = e.row ++ x ∷ [] }
 
   arc_grown : Grown e parts with_arc parts'
-  arc_grown = record { ways = λ k w h. h; keeps = keeps; row = λ y h. Contains-append_left e.row (x ∷ []) y h }
+  arc_grown = record { ways = keeps_refl e.ways; keeps = keeps; row = λ y h. Contains-append_left e.row (x ∷ []) y h }
 
   same_ways : (k : ℕ) (w : Way) → k ≤ d → slice_get with_arc.ways k ≡ Some w → slice_get e.ways k ≡ Some w
   same_ways k w l h = h
@@ -226,7 +227,7 @@ module _ (m : Machine) (e : Growing) (parts parts' : List Part) (d j : ℕ) (x :
 -- a way that doesn't end
 pub no_end_here : (m : Machine) (e : Growing) (parts : List Part) (d j : ℕ) (w : Way) → Expanding m e parts d j → slice_get e.ways d ≡ Some w → length (get_or m.arcs w.state []) ≤ j → (0 < d → (f : ℕ) → final_of m.finals w.state ≡ Some f → ⊥) → Expanding m e parts (d + 1) 0
 no_end_here m e parts d j w had at all none =
-    let g : Grown e parts e parts = record { ways = λ k w h. h; keeps = λ i p h. h; row = λ y h. h } in
+    let g : Grown e parts e parts = record { ways = keeps_refl e.ways; keeps = keeps_refl parts; row = λ y h. h } in
     let was : (k : ℕ) (x : Way) → k ≤ d → slice_get e.ways k ≡ Some x → slice_get e.ways k ≡ Some x = λ k x l h. h in
     record {
       first = had.first;

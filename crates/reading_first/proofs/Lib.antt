@@ -1,4 +1,3 @@
-pub mod Keys
 pub mod Readings
 pub mod Chains
 pub mod Following

@@ -5,9 +5,11 @@ use Rattle.std.proofs.Common.{refl, sym, ◌∙◌, ap, subst, inl, inr, arith}
 use Rattle.std.proofs.lemmas.Option.{slice_get_within}
 use Rattle.weighted_relations.specs.declared.Arc.{Arc}
 use Rattle.weighted_relations.specs.Machines.{Machine, WellFormed, final_of}
+use Rattle.state_table.specs.Numbers.{Distinct, Keeps, Numbers}
+use Rattle.state_table.proofs.Numbering.{keeps_refl, numbers_keeps}
 use Rattle.reading_first.specs.declared.parts.Part.{Part}
 use Rattle.reading_first.specs.declared.parts.Part.TheVariants.{At, Writes, Ended}
-use Rattle.reading_first.specs.Shapes.{Keeps, Added, Fit, PartFits, IsForced, Moves, RowOf, RowMade, IsSmall, writing}
+use Rattle.reading_first.specs.Shapes.{Fit, PartFits, IsForced, Moves, RowOf, RowMade, IsSmall, writing}
 use Rattle.reading_first.specs.Expanding.{Growing, Expanding}
 use Rattle.reading_first.proofs.Chains.{fit_added, before_within}
 use Rattle.reading_first.proofs.Following.{all_moves, says_kept, move_kept}
@@ -17,8 +19,8 @@ the_one x y (zero, l, e) = e
 the_one x y (suc k, l, e) = absurd (omega (arith, l))
 
 -- where nothing is chosen
-pub stays_made : (m : Machine) (old new : List Part) (q : ℕ) (a : Arc) (next : ℕ) (row : List Arc) → WellFormed m → Fit m old → IsForced m q a → Added old new (At a.next) next → row ≡ record { input = 0; output = a.output; weight = a.weight; next = next } ∷ [] → RowMade m old new (At q) row None
-stays_made m old new q a next row wf fit forced add is =
+pub stays_made : (m : Machine) (old new : List Part) (q : ℕ) (a : Arc) (next : ℕ) (row : List Arc) → WellFormed m → Fit m old → IsForced m q a → Distinct new → Numbers old new (At a.next) next → row ≡ record { input = 0; output = a.output; weight = a.weight; next = next } ∷ [] → RowMade m old new (At q) row None
+stays_made m old new q a next row wf fit forced distinct add is =
     let f = wf.arcs q 0 a (ap (λ r. slice_get r 0) forced.arc) in
     let x : Arc = record { input = 0; output = a.output; weight = a.weight; next = next } in
     let zero : 0 ≤ 257 = omega arith in
@@ -27,8 +29,8 @@ stays_made m old new q a next row wf fit forced add is =
       is = inl (record { was = a; forced = forced; arc = x; alone = is; input = refl; output = refl; weight = refl; next = add.stored; end = refl });
       small = λ y h. subst IsSmall (the_one x y (subst (λ r. Contains r y) is h)) small;
       light = λ w h. absurd (cc);
-      keeps = add.kept;
-      fit = fit_added m old new (At a.next) next fit add f.next;
+      keeps = numbers_keeps add;
+      fit = fit_added m old new (At a.next) next fit distinct add f.next;
     }
 
 -- where ways were followed
@@ -53,7 +55,7 @@ writes_made m parts l k row fit fits is =
       is = (is, refl);
       small = λ y h. subst IsSmall (the_one (writing l k) y (subst (λ r. Contains r y) is h)) small;
       light = λ w h. absurd (cc);
-      keeps = λ i p h. h;
+      keeps = keeps_refl parts;
       fit = fit;
     }
 
@@ -62,14 +64,14 @@ ended_made m parts row fit is = record {
   is = (is, refl);
   small = λ y h. absurd (let l = (subst (λ r. Contains r y) is h).1 in omega (arith, l));
   light = λ w h. (let e : 0 ≡ w = (let f : Some 0 ≡ Some w = h in cc) in let n : w < 2 ^ 54 = omega arith in n);
-  keeps = λ i p h. h;
+  keeps = keeps_refl parts;
   fit = fit;
 }
 
 -- more parts
 pub row_kept : (m : Machine) (old new : List Part) (p : Part) (row : List Arc) (last : Option ℕ) → Keeps old new → RowOf m old p row last → RowOf m new p row last
 row_kept m old new (At q) row last keeps r = elim r [
-  | inl st ↦ inl (record { was = st.was; forced = st.forced; arc = st.arc; alone = st.alone; input = st.input; output = st.output; weight = st.weight; next = keeps st.arc.next (At st.was.next) st.next; end = st.end })
+  | inl st ↦ inl (record { was = st.was; forced = st.forced; arc = st.arc; alone = st.alone; input = st.input; output = st.output; weight = st.weight; next = keeps.kept st.arc.next (At st.was.next) st.next; end = st.end })
   | inr mv ↦ inr (record {
     sound = λ x h. move_kept m q old new x keeps (mv.sound x h);
     found = λ i t v p g.

@@ -6,11 +6,12 @@ use Rattle.std.proofs.lemmas.Option.{slice_get-get_or}
 use Rattle.weighted_relations.specs.declared.Arc.{Arc}
 use Rattle.weighted_relations.specs.Graphs.{label}
 use Rattle.weighted_relations.specs.Machines.{Machine, IsArc, WellFormed, final_of}
+use Rattle.state_table.specs.Numbers.{Keeps}
 use Rattle.reading_first.specs.declared.parts.Part.{Part}
 use Rattle.reading_first.specs.declared.parts.Part.TheVariants.{At, Ended}
 use Rattle.reading_first.specs.declared.expands.Way.{Way}
 use Rattle.reading_first.specs.Ways.{Silent, Move, reads, ends}
-use Rattle.reading_first.specs.Shapes.{Keeps, PartFits, Fit, IsMove, Says}
+use Rattle.reading_first.specs.Shapes.{PartFits, Fit, IsMove, Says}
 use Rattle.reading_first.specs.Expanding.{TextOf, Written, Growing, Expanding, IsFollowed, IsFound}
 use Rattle.reading_first.proofs.Following.{push_reading, push_end}
 

@@ -4,20 +4,10 @@ use Rattle.std.specs.List.{Contains}
 use Rattle.weighted_relations.specs.declared.Arc.{Arc}
 use Rattle.weighted_relations.specs.Graphs.{label}
 use Rattle.weighted_relations.specs.Machines.{Machine, final_of}
+use Rattle.state_table.specs.Numbers.{Keeps}
 use Rattle.reading_first.specs.declared.parts.Part.{Part}
 use Rattle.reading_first.specs.declared.parts.Part.TheVariants.{At, Writes, Ended}
 use Rattle.reading_first.specs.Ways.{Move}
-
--- what has a number keeps it
-abbrev pub Keeps : List Part → List Part → Type 0
-Keeps old new = (i : ℕ) (p : Part) → slice_get old i ≡ Some p → slice_get new i ≡ Some p
-
--- the part has this number, and at most it is new
-pub record Added (old new : List Part) (part : Part) (number : ℕ) : Type 0 where
-  pub stored : slice_get new number ≡ Some part
-  pub kept : Keeps old new
-  pub only : (j : ℕ) (p : Part) → slice_get new j ≡ Some p → (slice_get old j ≡ Some p) ⊎ (p ≡ part)
-  pub more : length old ≤ length new
 
 -- from the part of this number on a text is written, and then comes a part
 abbrev pub Before : List Part → ℕ → List ℕ → Part → Type 0

@@ -5,11 +5,13 @@ ghost use Rattle.weighted_relations.specs.Graphs.{label};
 ghost use Rattle.weighted_relations.specs.Machines.{Machine, WellFormed};
 ghost use Rattle.reading_first.specs.declared.parts.Part.{Part};
 ghost use Rattle.reading_first.specs.declared.expands.Way.{Way};
-ghost use Rattle.reading_first.specs.Shapes.{Before, Fit, Keeps, PartFits};
+ghost use Rattle.state_table.specs.Numbers.{Keeps};
+ghost use Rattle.reading_first.specs.Shapes.{Before, Fit, PartFits};
 ghost use Rattle.reading_first.specs.Expanding.{Backwards, Expanding, TextOf, Written, standing};
 
-use crate::parts::{Part, Parts};
+use crate::parts::Part;
 use fst_core::{Arc, Fst};
+use state_table::StateTable;
 use std::alloc::{AllocError, Global};
 use std::marker::Model;
 
@@ -67,7 +69,7 @@ impl Expansion {
         a: &Fst,
         at: usize,
         j: usize,
-        parts: &mut Parts,
+        parts: &mut StateTable<Part>,
     ) -> Result<bool, AllocError>
         requires within { at < length self.old.ways }
         requires arc { (w : Way) → slice_get self.old.ways at ≡ Some w → j < length (get_or a.now.arcs w.state []) }
@@ -106,7 +108,7 @@ impl Expansion {
 
     /// Adds the end of a way that some arcs make, if it is one, when these arcs are followed. False where its weight
     /// gets too great.
-    fn end(&mut self, a: &Fst, at: usize, parts: &mut Parts) -> Result<bool, AllocError>
+    fn end(&mut self, a: &Fst, at: usize, parts: &mut StateTable<Part>) -> Result<bool, AllocError>
         requires sound { WellFormed a.now }
         requires within { at < length self.old.ways }
         requires expanding { ((w : Way) → slice_get self.old.ways at ≡ Some w → Expanding a.now self.old parts.old at (length (get_or a.now.arcs w.state []))) }
@@ -138,7 +140,12 @@ impl Expansion {
     }
 
     /// Follows a way. False where a weight gets too great.
-    fn follow_all(&mut self, a: &Fst, at: usize, parts: &mut Parts) -> Result<bool, AllocError>
+    fn follow_all(
+        &mut self,
+        a: &Fst,
+        at: usize,
+        parts: &mut StateTable<Part>,
+    ) -> Result<bool, AllocError>
         requires within { at < length self.old.ways }
         requires expanding { Expanding a.now self.old parts.old at 0 }
         ensures expanding { IfOk result (λ ok. IsTrue ok → Expanding a.now self.new parts.new (at + 1) 0) }
@@ -158,7 +165,12 @@ impl Expansion {
 
     /// Follows all ways, of which there are to be no more than `room`. False where there are more, or where a weight
     /// gets too great.
-    pub fn run(&mut self, a: &Fst, room: usize, parts: &mut Parts) -> Result<bool, AllocError>
+    pub fn run(
+        &mut self,
+        a: &Fst,
+        room: usize,
+        parts: &mut StateTable<Part>,
+    ) -> Result<bool, AllocError>
         requires expanding { Expanding a.now self.old parts.old 0 0 }
         ensures expanding { IfOk result (λ ok. IsTrue ok → Expanding a.now self.new parts.new (length self.new.ways) 0) }
         ensures room { IfOk result (λ ok. IsTrue ok → length self.new.ways ≤ room) }
@@ -197,7 +209,7 @@ fn chained(
     from: usize,
     last: u16,
     to: Part,
-    parts: &mut Parts,
+    parts: &mut StateTable<Part>,
 ) -> Result<(u16, usize), AllocError>
     requires within { from < length ways.now }
     requires backwards { Backwards ways.now }
@@ -222,7 +234,7 @@ fn chained(
 }
 
 /// The number of the part that writes a label, if it is none, before another.
-fn put_off(first: u16, next: usize, parts: &mut Parts) -> Result<usize, AllocError>
+fn put_off(first: u16, next: usize, parts: &mut StateTable<Part>) -> Result<usize, AllocError>
     requires label { first ≤ 257 }
     requires within { next < length parts.old }
     ensures text { IfOk result (λ k. (t : List ℕ) (p : Part) → Before parts.old next t p → Before parts.new k (label first t) p) }

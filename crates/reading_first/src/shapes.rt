@@ -8,8 +8,9 @@ ghost use Rattle.reading_first.specs.ReadsFirst.{ReadsFirst};
 ghost use Rattle.reading_first.specs.Shapes.{Fit, IsForced, PartFits, RowMade};
 
 use crate::expands::Expansion;
-use crate::parts::{Part, Parts};
+use crate::parts::Part;
 use fst_core::{Arc, Builder, Fst};
+use state_table::StateTable;
 use std::alloc::{AllocError, Global};
 
 /// The arcs and the final weight of a state, and how many ways were followed for them.
@@ -34,12 +35,12 @@ pub fn read_first(alloc: Global, a: &Fst, limit: usize) -> Result<Option<Fst>, A
     ensures shape { IfOk result (λ found. IfSome found ReadsFirst) }
     ensures states { IfOk result (λ found. IfSome found (λ m. length m.arcs ≤ limit)) }
 {
-    let mut parts = Parts::new(alloc);
+    let mut parts = StateTable::new(alloc);
     let start = parts.number(Part::At(a.start()))?;
     let mut built = Builder::new(alloc);
     let mut room = limit;
     while built.len() < parts.len() {
-        let part = parts.get(built.len());
+        let part = *parts.key(built.len());
         let row = match row_of(alloc, a, part, room, &mut parts)? {
             Some(row) if parts.len() <= limit => row,
             _ => return Ok(None),
@@ -56,7 +57,7 @@ fn row_of(
     a: &Fst,
     part: Part,
     room: usize,
-    parts: &mut Parts,
+    parts: &mut StateTable<Part>,
 ) -> Result<Option<Row>, AllocError>
     requires sound { WellFormed a.now }
     requires part { PartFits a.now (length parts.old) part }
@@ -94,7 +95,7 @@ fn row_at(
     a: &Fst,
     q: usize,
     room: usize,
-    parts: &mut Parts,
+    parts: &mut StateTable<Part>,
 ) -> Result<Option<Row>, AllocError>
     requires sound { WellFormed a.now }
     requires state { q < length a.now.arcs }

@@ -4,3 +4,6 @@ pub mod Readies
 pub mod Handing
 pub mod Going
 pub mod Rounds
+pub mod Seen
+pub mod Keeping
+pub mod Finding

@@ -11,22 +11,22 @@ use Rattle.place_table.specs.Tables.{words_of}
 use Rattle.place_table.specs.Ways.{way_count}
 use Rattle.shared_cascade.specs.declared.callers.Caller.{Caller}
 use Rattle.shared_cascade.specs.declared.shared.Shared.{Shared}
-use Rattle.shared_cascade.specs.Callers.{IsReady, log_of, looks_of, places_in}
+use Rattle.shared_cascade.specs.Callers.{IsAtRest, log_of, looks_of, places_in}
 use Rattle.shared_cascade.specs.Counts.{AreWhole, looks_in}
 use Rattle.shared_cascade.proofs.Counting.{Runs, joined}
 
--- it is ready, and has made so many looks more
+-- it is at rest, and has made so many looks more
 pub record Again (s : Shared) (c d : Caller) (k : ℕ) : Type 0 where
-  pub ready : IsReady s d
+  pub rest : IsAtRest s d
   pub looks : looks_of s d ≡ looks_of s c + k
 
-pub again : (s : Shared) (c d : Caller) (es : List Entry) (k : ℕ) → IsReady s c → IsSeatOf (words_of s.table) d.seat → view_of d.seat ≡ logged (view_of c.seat) es → Runs (way_count (places_in s)) 0 es 0 k → Again s c d k
+pub again : (s : Shared) (c d : Caller) (es : List Entry) (k : ℕ) → IsAtRest s c → IsSeatOf (words_of s.table) d.seat → view_of d.seat ≡ logged (view_of c.seat) es → Runs (way_count (places_in s)) 0 es 0 k → Again s c d k
 again s c d es k h own view runs =
     let n = way_count (places_in s) in
     let log = sym (ap (λ v. v.log) view) in
     let all = joined n 0 (log_of c) es (record { left = h.whole; ended = refl }) runs in
     record {
-      ready = record {
+      rest = record {
         together = own;
         tag = ap (λ v. v.tag) view ∙ h.tag;
         idle = ap (λ v. v.mode) view;

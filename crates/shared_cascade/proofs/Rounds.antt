@@ -1,5 +1,5 @@
 -- A sweep, place by place and round by round.
-use Rattle.std.specs.Prelude.{◌≡◌, ◌≢◌, Bool, true, false, ℕ, suc, ◌+◌, List, [], ◌∷◌, ◌++◌, cond, length, nat_eq}
+use Rattle.std.specs.Prelude.{None, ◌≡◌, ◌≢◌, Bool, true, false, ℕ, suc, ◌+◌, List, [], ◌∷◌, ◌++◌, cond, length, nat_eq}
 use Rattle.std.proofs.Common.{refl, sym, ◌∙◌, ap, subst, arith, append_assoc}
 use Rattle.std.proofs.lemmas.Bool.{ne_eqb}
 use Rattle.std.proofs.lemmas.List.{append-nil}
@@ -15,9 +15,10 @@ use Rattle.shared_cascade.specs.declared.callers.Caller.{Caller}
 use Rattle.shared_cascade.specs.declared.facts.Grammars.{Grammars}
 use Rattle.shared_cascade.specs.declared.shared.Shared.{Shared}
 use Rattle.shared_cascade.specs.declared.sweeping.Swept.{Swept}
-use Rattle.shared_cascade.specs.Callers.{IsReady, log_of, places_in}
+use Rattle.shared_cascade.specs.Callers.{IsReady, log_before, log_of, places_in}
 use Rattle.shared_cascade.specs.Sweeps.{AreRounds, IsRound, SweptBy, done_in, empties, was_in}
 use Rattle.shared_cascade.proofs.Counting.{Runs}
+use Rattle.shared_cascade.proofs.Keeping.{at_rest, keeps_more}
 use Rattle.shared_cascade.proofs.Readies.{again, still_idle}
 
 empties_more : (p : ℕ) (ws : List ℕ) (w : ℕ) → empties p (ws ++ w ∷ []) ≡ empties p ws ++ Empty (p + length ws) w ∷ []
@@ -56,6 +57,7 @@ nothing_yet s c old h = record {
   was = omega arith;
   looks = refl;
   tally = refl;
+  before = refl;
 }
 
 -- one after the other
@@ -67,23 +69,33 @@ then s c d e es fs old mid new f g = record {
   was = (let a = f.was in let b = g.was in let x = was_append es fs in omega arith);
   looks = g.looks ∙ f.looks;
   tally = g.tally ∙ f.tally;
+  before = g.before ∙ f.before;
 }
 
 -- one place
-pub one_place : (s : Shared) (c d : Caller) (p w : ℕ) (es : List Entry) (old new : Swept) → IsReady s c → IsSeatOf (words_of s.table) d.seat → es ≡ Empty p w ∷ [] → view_of d.seat ≡ logged (view_of c.seat) es → d.tally ≡ c.tally
+pub one_place : (s : Shared) (c d : Caller) (p w : ℕ) (es : List Entry) (old new : Swept) → IsReady s c → IsSeatOf (words_of s.table) d.seat → es ≡ Empty p w ∷ [] → view_of d.seat ≡ logged (view_of c.seat) es → d.tally ≡ c.tally → log_before d ≡ log_before c
     → new.done ≡ old.done + cond (nat_eq w STATE) 1 0 → new.was ≡ old.was + cond (nat_eq w STATE) 0 1 → SweptBy s c d (Empty p w ∷ []) old new
-one_place s c d p w es old new h own is view tally done was =
+one_place s c d p w es old new h own is view tally before done was =
     let n = way_count (places_in s) in
     let at : view_of d.seat ≡ logged (view_of c.seat) (Empty p w ∷ []) = view ∙ ap (logged (view_of c.seat)) is in
     let runs : Runs n 0 (Empty p w ∷ []) 0 0 = record { left = refl; ended = refl } in
-    let x = again s c d (Empty p w ∷ []) 0 h own at runs in
+    let x = again s c d (Empty p w ∷ []) 0 (at_rest s c h) own at runs in
+    let seen = at ∙ still_idle (view_of c.seat) (Empty p w ∷ []) h.idle in
     record {
-      ready = x.ready;
-      view = at ∙ still_idle (view_of c.seat) (Empty p w ∷ []) h.idle;
+      ready = record {
+        together = x.rest.together;
+        tag = x.rest.tag;
+        idle = x.rest.idle;
+        whole = x.rest.whole;
+        sound = x.rest.sound;
+        counted = keeps_more s c d None (Empty p w ∷ []) h.counted before (p, w, refl) seen tally (λ one. ap (λ t. t.no_place) tally);
+      };
+      view = seen;
       done = omega arith;
       was = omega arith;
       looks = (let e = x.looks in omega arith);
       tally = tally;
+      before = before;
     }
 
 -- where another word was found, nothing was made empty

@@ -53,6 +53,7 @@ on_self x = record {
   episodes = refl;
   view = λ i. record (view_of x.caller.now.seat) { log = sym (append-nil (log_of x.caller.now)) i };
   tally = refl;
+  before = refl;
 }
 
 -- episodes after episodes
@@ -61,7 +62,7 @@ both cs n [] ps es fs h g = subst (λ t. Episodes cs n ps (t ++ fs)) (sym h) g
 both cs n (o ∷ os) ps es fs h g =
     (h.0, h.1, h.2 ++ fs, h.3, both cs n os ps h.2 fs h.4 g, ap (λ t. t ++ fs) h.5 ∙ append_assoc h.1 h.2 fs)
 
-both_counted : (os ps : List Outcome) (t : Tally) → with_all (os ++ ps) t ≡ with_all ps (with_all os t)
+pub both_counted : (os ps : List Outcome) (t : Tally) → with_all (os ++ ps) t ≡ with_all ps (with_all os t)
 both_counted [] ps t = refl
 both_counted (o ∷ os) ps t = both_counted os ps _
 
@@ -75,4 +76,5 @@ on_again x y z f g =
       episodes = both (cascades_in x.shared.now) (places_in x.shared.now) f.outcomes g.outcomes f.entries g.entries f.episodes later;
       view = g.view ∙ (ap (λ (v : View Grammars). record v { log = v.log ++ g.entries }) f.view ∙ (λ i. record (view_of x.caller.now.seat) { log = append_assoc (log_of x.caller.now) f.entries g.entries i }));
       tally = g.tally ∙ (ap (with_all g.outcomes) f.tally ∙ sym (both_counted f.outcomes g.outcomes x.caller.now.tally));
+      before = g.before ∙ f.before;
     }

@@ -1,9 +1,11 @@
 pub mod Grammars
 pub mod RightCodes
 pub mod RightSizes
+pub mod Held
 pub mod Episodes
 pub mod Counts
 pub mod Tallies
+pub mod Since
 pub mod Callers
 pub mod Sweeps
 pub mod Hands

@@ -6,7 +6,7 @@ use Rattle.place_words.specs.Seats.{view_of}
 use Rattle.shared_cascade.specs.declared.callers.Caller.{Caller}
 use Rattle.shared_cascade.specs.declared.shared.Shared.{Shared}
 use Rattle.shared_cascade.specs.declared.sweeping.Swept.{Swept}
-use Rattle.shared_cascade.specs.Callers.{IsReady, log_of, looks_of}
+use Rattle.shared_cascade.specs.Callers.{IsReady, log_before, log_of, looks_of}
 use Rattle.place_words.specs.declared.view.Entry.TheVariants.{Knock, Leave, Read, TakeEmpty, TakeShown, Write, Show, Empty}
 
 -- places are tried in order from p on, and these words found
@@ -54,6 +54,7 @@ pub record SweptBy (s : Shared) (c d : Caller) (es : List Entry) (old new : Swep
   pub was : new.was ≡ old.was + was_in es
   pub looks : looks_of s d ≡ looks_of s c
   pub tally : d.tally ≡ c.tally
+  pub before : log_before d ≡ log_before c
 
 abbrev pub nothing_swept : Swept
 nothing_swept = record { done = 0; was = 0 }

@@ -11,9 +11,11 @@
 //! A call that fails, fails for want of memory alone, and leaves its caller ready.
 #![tactic(auto)]
 
+mod arcs;
 mod callers;
 mod facts;
 mod hands;
+mod holding;
 mod opening;
 mod shared;
 mod sweeping;

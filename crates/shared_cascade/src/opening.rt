@@ -1,7 +1,8 @@
 // A table that is empty, and its callers.
 
-ghost use Rattle.std.specs.Prelude.{◌≡◌, ◌≤◌, ◌∷◌, [], All, IfOk, map, vec_len};
-ghost use Rattle.shared_cascade.specs.Callers.{IsNew, cascades_in, places_in};
+ghost use Rattle.std.specs.Prelude.{◌≡◌, ◌≤◌, ◌∷◌, ℕ, [], All, IfOk, Some, map, slice_get, vec_len};
+ghost use Rattle.shared_cascade.specs.declared.callers.Caller.{Caller};
+ghost use Rattle.shared_cascade.specs.Callers.{IsNew, cascades_in, number_in, places_in, seats_of};
 ghost use Rattle.shared_cascade.specs.Tallies.{no_tally};
 
 use crate::callers::Caller;
@@ -13,7 +14,8 @@ use state_tuples::Cascade;
 use std::alloc::{AllocError, Global};
 
 impl Shared {
-    /// An empty table of so many places for the expansions of two cascades, and all callers that may use it.
+    /// An empty table of so many places for the expansions of two cascades, and all callers that may use it, in the order of the numbers of their
+    /// seats, from 0.
     pub fn open(
         alloc: Global,
         classifier: Cascade,
@@ -28,6 +30,8 @@ impl Shared {
         ensures places { IfOk result (λ t. places_in t.0 ≡ places) }
         ensures count { IfOk result (λ t. vec_len t.1 ≡ seats) }
         ensures callers { IfOk result (λ t. All (IsNew t.0) t.1.items) }
+        ensures seats { IfOk result (λ t. All (λ c. seats_of c ≡ seats) t.1.items) }
+        ensures numbers { IfOk result (λ t. (k : ℕ) (c : Caller) → slice_get t.1.items k ≡ Some c → number_in c ≡ k) }
     {
         let _first = classifier.start();
         let _second = verbaliser.start();
@@ -46,6 +50,7 @@ impl Shared {
 fn seated(alloc: Global, all: Vec<Seat<Grammars>>) -> Result<Vec<Caller>, AllocError>
     ensures seats { IfOk result (λ v. map (λ c. c.seat) v.items ≡ all.items) }
     ensures tallies { IfOk result (λ v. All (λ c. c.tally ≡ no_tally) v.items) }
+    ensures before { IfOk result (λ v. All (λ c. c.before.value ≡ c.seat) v.items) }
 {
     let mut callers = Vec::with_capacity(alloc, all.len())?;
     for seat in all {

@@ -1,26 +1,31 @@
 -- From what fits a plan to what its job does, and what work on lines leaves of its devices.
-use Rattle.std.proofs.Common.{◌≡◌, ℕ, List, [], ◌∷◌, None, Some, Ok, Err, Result, Bool, true, inl, inr, IfSome, IfOk, IfErr, refl, sym, ap, ◌∙◌, subst, arith}
+use Rattle.std.proofs.Common.{◌≡◌, ℕ, List, [], ◌∷◌, None, Some, Ok, Err, Result, Bool, true, false, length, inl, inr, IfSome, IfOk, IfErr, refl, sym, ap, ◌∙◌, subst, Vec, Global, arith}
 use Rattle.std.proofs.KnownBytes.{Appends-nil}
 use Rattle.std.specs.Io.KnownBytes.{Appends}
 use Rattle.std.specs.declared.option.Option.{Option}
+use Rattle.norm_base.specs.Counts.{Rose}
 use Rattle.norm_base.specs.Files.{Files}
 use Rattle.normaliser.specs.Lines.{Answer, Saying}
 use Rattle.speak_words.specs.Asked.{Job, check, classify, sample, speak}
 use Rattle.text_lines.specs.Lines.{lines}
 use Rattle.speak_core.specs.Accepted.{JobAsks, OrText}
-use Rattle.speak_core.specs.Answers.{AllSaid, written}
+use Rattle.speak_core.specs.Answers.{AllSaid, Tells, written}
+use Rattle.norm_base.specs.Bytes.{AppendsPrefix}
+use Rattle.shared_cascade.specs.Tallies.{no_tally}
+use Rattle.shared_cascade.specs.declared.tallies.Tally.{Tally}
+use Rattle.speak_core.specs.Reports.{if_wanted, total_text}
 use Rattle.speak_core.specs.Inputs.{IfGaveTooMuch}
-use Rattle.speak_core.specs.Loaded.{FindsPlanned, Planned, SaySame}
+use Rattle.speak_core.specs.Loaded.{FindsPlanned, Planned, SaysOnce}
 use Rattle.speak_core.specs.Outputs.{sample_lines}
-use Rattle.speak_core.specs.Parts.{Speaks, Writes, says_of}
+use Rattle.speak_core.specs.Parts.{AppendsSome, Speaks, TellsSome, Writes, says_of}
 use Rattle.speak_core.specs.Plans.{Plan, saying_of}
 use Rattle.speak_core.specs.Stops.{Counts, IsDeviceStop, IsReadingStop, SinkCounts}
-use Rattle.speak_core.specs.Works.{CheckedBy, Does, InputBy, SampledBy, SaysNothing, WorkCounts}
+use Rattle.speak_core.specs.Works.{CheckedBy, Does, InputBy, SampledBy, SaysNothing, WorkCounts, work_lines, work_reports, work_says, work_text}
 use Rattle.speak_core.specs.declared.stop.Stop.{Stop}
 use Rattle.speak_core.specs.declared.stop.Stop.TheVariants.{Words, Refused, Outside, Memory, TooLong}
 use Rattle.speak_core.specs.declared.works.Work.{Work}
 use Rattle.speak_core.specs.declared.works.Work.TheVariants.{Input, Checked, Sampled}
-use Rattle.speak_core.proofs.Said.{all_said_to}
+use Rattle.speak_core.proofs.Said.{all_said_to, said_once, some_front, told_until, told_whole}
 
 -- what fits a plan fits it otherwise too
 pub fits_through : {B : Type 0} (Fits Other : Plan → B → Type 0) (P : OrText Plan → Type 0) (r : Result B Stop) → ((plan : Plan) (b : B) → Fits plan b → Other plan b) → FindsPlanned Fits P r → FindsPlanned Other P r
@@ -36,18 +41,22 @@ said_nothing P Q (a ∷ answers) h = absurd h
 
 pub input_speaks : (setup : List ℕ) (plan : Plan) (w : Work) → InputBy plan w → Does (speak setup) plan w
 input_speaks setup plan (Input s) h = record {
-  by_plan = λ input answers. all_said_to (says_of s) (saying_of plan) (λ line a. (h line a).0) (lines input) answers;
-  by_work = λ input answers. all_said_to (saying_of plan) (says_of s) (λ line a. (h line a).1) (lines input) answers;
+  by_plan = λ input answers. all_said_to (says_of s.speaker) (saying_of plan) (λ line a. (h line a).0) (lines input) answers;
+  by_work = λ input answers. all_said_to (saying_of plan) (says_of s.speaker) (λ line a. (h line a).1) (lines input) answers;
   text = λ answers. refl;
+  lines = λ input. refl;
+  reports = λ report. refl;
 }
 input_speaks setup plan (Checked text) h = absurd h
 input_speaks setup plan (Sampled s) h = absurd h
 
 pub input_classifies : (setup : List ℕ) (plan : Plan) (w : Work) → InputBy plan w → Does (classify setup) plan w
 input_classifies setup plan (Input s) h = record {
-  by_plan = λ input answers. all_said_to (says_of s) (saying_of plan) (λ line a. (h line a).0) (lines input) answers;
-  by_work = λ input answers. all_said_to (saying_of plan) (says_of s) (λ line a. (h line a).1) (lines input) answers;
+  by_plan = λ input answers. all_said_to (says_of s.speaker) (saying_of plan) (λ line a. (h line a).0) (lines input) answers;
+  by_work = λ input answers. all_said_to (saying_of plan) (says_of s.speaker) (λ line a. (h line a).1) (lines input) answers;
   text = λ answers. refl;
+  lines = λ input. refl;
+  reports = λ report. refl;
 }
 input_classifies setup plan (Checked text) h = absurd h
 input_classifies setup plan (Sampled s) h = absurd h
@@ -58,6 +67,8 @@ rules_checked setup plan (Checked text) h = record {
   by_plan = λ input answers. said_nothing SaysNothing (saying_of plan) answers;
   by_work = λ input answers. said_nothing (saying_of plan) SaysNothing answers;
   text = λ answers. h;
+  lines = λ input. refl;
+  reports = λ report. refl;
 }
 rules_checked setup plan (Sampled s) h = absurd h
 
@@ -67,9 +78,11 @@ sample_sampled count start plan (Checked text) h = absurd h
 sample_sampled count start plan (Sampled s) h =
     let same : sample_lines s.count s.start ≡ sample_lines count start = ap (λ n. sample_lines n s.start) h.1 ∙ ap (λ x. sample_lines count x) h.2 in
     record {
-      by_plan = λ input answers said. subst (λ l. AllSaid (saying_of plan) l answers) same (all_said_to (says_of s.speaker) (saying_of plan) (λ line a. (h.0 line a).0) (sample_lines s.count s.start) answers said);
-      by_work = λ input answers said. subst (λ l. AllSaid (says_of s.speaker) l answers) (sym same) (all_said_to (saying_of plan) (says_of s.speaker) (λ line a. (h.0 line a).1) (sample_lines count start) answers said);
+      by_plan = λ input answers said. subst (λ l. AllSaid (saying_of plan) l answers) same (all_said_to (says_of s.loaded.speaker) (saying_of plan) (λ line a. (h.0 line a).0) (sample_lines s.count s.start) answers said);
+      by_work = λ input answers said. subst (λ l. AllSaid (says_of s.loaded.speaker) l answers) (sym same) (all_said_to (saying_of plan) (says_of s.loaded.speaker) (λ line a. (h.0 line a).1) (sample_lines count start) answers said);
       text = λ answers. refl;
+      lines = λ input. same;
+      reports = λ report. refl;
     }
 
 -- what is found for a job, by what fits its plan
@@ -128,11 +141,49 @@ pub where_known : {X : Type 0} (known : Option X) (P : X → Type 0) → ((x : X
 where_known None P f = tt
 where_known (Some x) P f = f x
 
-pub speaks_writes : (P : Saying) (all : List (List ℕ)) (out out' err err' : Option (List ℕ)) (is_read : Bool) → Speaks P 1 all out out' err err' is_read → Writes P all written out out' err err' is_read
-speaks_writes P all out out' err err' is_read h = record { answers = h.answers; said = h.said; output = h.words; faults = h.faults; read = h.read }
+pub speaks_writes : (P : Saying) (w : Bool) (t : Tally) (all : List (List ℕ)) (out out' err emid err' : Option (List ℕ)) (is_read : Bool) → Speaks P w 1 no_tally t all out out' err emid is_read → (n : ℕ) → n ≡ length all → Appends emid err' (if_wanted w (total_text n t)) → Writes P w all written out out' err err' is_read
+speaks_writes P w t all out out' err emid err' is_read h n counted last =
+    record { answers = h.answers; said = h.said; output = h.words; faults = told_whole P w t all h.answers h.said h.tallies h.tallied h.total err emid err' h.faults n counted last; read = h.read }
 
-pub text_writes : (text : List ℕ) (out out' err : Option (List ℕ)) (is_read : Bool) → (is_read ≡ true) × Appends out out' text → Writes SaysNothing [] (λ answers. text) out out' err err is_read
-text_writes text out out' err is_read h = record { answers = []; said = tt; output = h.1; faults = Appends-nil err; read = h.0 }
+-- lines that were spoken from no lines on, by what is known of the report
+pub speaks_anew : (P : Saying) (w v : Bool) (s t : Tally) (all : List (List ℕ)) (out out' err err' : Option (List ℕ)) (is_read : Bool) → v ≡ w → s ≡ no_tally → Speaks P v 1 s t all out out' err err' is_read → Speaks P w 1 no_tally t all out out' err err' is_read
+speaks_anew P w v s t all out out' err err' is_read wanted none h =
+    subst (λ b. Speaks P b 1 no_tally t all out out' err err' is_read) wanted (subst (λ x. Speaks P v 1 x t all out out' err err' is_read) none h)
+
+-- a front of what may be told of lines before the total
+pub front_until : (P : Saying) (w v : Bool) (all : List (List ℕ)) (old new : Option (List ℕ)) → v ≡ w → ((answers : List Answer) → AllSaid P all answers → TellsSome v 1 all answers old new) → (answers : List Answer) → AllSaid P all answers → AppendsSome (Tells w all answers) old new
+front_until P w v all old new wanted front answers said = subst (λ b. AppendsSome (Tells b all answers) old new) wanted (some_front v all answers old new (front answers said))
+
+-- the counts where the total isn't told after all lines were
+pub total_counts : (T U : Type 0) (source source' out out' err emid err' : ℕ) (s : Stop) → source' ≡ source → (out' ≡ out) × (emid ≡ err) → Counts {T = T} emid err' (Err s) → IsDeviceStop s → WorkCounts {T = U} source source' out out' err err' (Err s)
+total_counts T U source source' out out' err emid err' Words read kept told stop = absurd stop
+total_counts T U source source' out out' err emid err' (Refused text) read kept told stop = absurd stop
+total_counts T U source source' out out' err emid err' Outside read kept told stop = inr (inr (subst (λ e. Rose e err') kept.1 told))
+total_counts T U source source' out out' err emid err' Memory read kept told stop = tt
+total_counts T U source source' out out' err emid err' TooLong read kept told stop = absurd stop
+
+-- where the total is cut off, a front of all is told
+pub speaks_until : (P : Saying) (w : Bool) (t : Tally) (all : List (List ℕ)) (out out' err emid err' : Option (List ℕ)) (is_read : Bool) → Speaks P w 1 no_tally t all out out' err emid is_read → SaysOnce P → (n : ℕ) → n ≡ length all → AppendsPrefix emid err' (if_wanted w (total_text n t))
+    → (answers : List Answer) → AllSaid P all answers → AppendsSome (Tells w all answers) err err'
+speaks_until P w t all out out' err emid err' is_read h once n counted last answers said =
+    subst (λ a. AppendsSome (Tells w all a) err err') (said_once P once all h.answers answers h.said said) (told_until P w t all h.answers h.said h.tallies h.tallied h.total err emid err' h.faults n counted last)
+
+pub text_writes : (text : List ℕ) (out out' err : Option (List ℕ)) (is_read : Bool) → (is_read ≡ true) × Appends out out' text → Writes SaysNothing false [] (λ answers. text) out out' err err is_read
+text_writes text out out' err is_read h = record {
+  answers = [];
+  said = tt;
+  output = h.1;
+  faults = record { text = []; is = record { tallies = []; tallied = tt; is = refl }; whole = Appends-nil err };
+  read = h.0;
+}
+
+-- the sizes of rules were written, and nothing is told
+pub checked_writes : (w : Work) (text : Vec ℕ Global) (report : Bool) (left : Option (List ℕ)) (bytes : List ℕ) (out out' err : Option (List ℕ)) (r : Result Bool Stop) → w ≡ Checked text → bytes ≡ text.items → IfOk r (λ is_read. (is_read ≡ true) × Appends out out' bytes)
+    → IfSome left (λ input. IfOk r (Writes (work_says w) (work_reports w report) (work_lines w input) (work_text w) out out' err err))
+checked_writes w text report None bytes out out' err r is same h = tt
+checked_writes w text report (Some input) bytes out out' err (Ok is_read) is same h =
+    subst (λ v. Writes (work_says v) (work_reports v report) (work_lines v input) (work_text v) out out' err err is_read) (sym is) (text_writes text.items out out' err is_read (h.0, subst (Appends out out') same h.1))
+checked_writes w text report (Some input) bytes out out' err (Err s) is same h = tt
 
 -- what is known of an input that was read
 pub of_input : (left : Option (List ℕ)) (P : List ℕ → Type 0) (bytes : List ℕ) → IfSome left (λ input. bytes ≡ input) → P bytes → IfSome left P

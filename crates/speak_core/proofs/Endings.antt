@@ -2,21 +2,20 @@
 use Rattle.std.proofs.Common.{inl, inr, ◌≡◌, ◌⊎◌, ◌==◌, ℕ, ◌+◌, ◌≤◌, ◌^◌, List, [], None, Some, Ok, Err, Bool, true, false, IfSome, IfOk, IfErr, OnOk, IsSomeAnd, length, refl, sym, ap, ◌∙◌, subst, arith, if◌then◌else◌, String, Vec, Global}
 use Rattle.std.specs.Prelude.{Result, Option}
 use Rattle.std.specs.Result.{IsErrAnd}
-use Rattle.norm_base.specs.Bytes.{AppendsPrefix}
 use Rattle.norm_base.specs.Counts.{capped}
 use Rattle.norm_base.specs.Files.{Files}
-use Rattle.norm_base.proofs.Front.{prefix_none}
-use Rattle.speak_core.specs.Outputs.{lines_for, out_text, reads_input}
+use Rattle.speak_core.specs.Outputs.{lines_for, out_text, reads_input, reports_for}
 use Rattle.speak_core.specs.Accepted.{Accepted, Asks, IsRefusal, OrText, Refused as Refuses}
-use Rattle.speak_core.specs.Requests.{job_in}
+use Rattle.speak_core.specs.Requests.{job_in, settings_in}
 use Rattle.speak_core.specs.Inputs.{GaveMore, GaveTooMuch, IfGaveTooMuch}
 use Rattle.speak_core.specs.Loaded.{StopsAs}
-use Rattle.speak_core.specs.Owed.{Owed, SpeaksAll, SpeaksInput}
+use Rattle.speak_core.specs.Owed.{Owed, SpeaksAll, SpeaksInput, Spoke, Told, spoke_nothing}
 use Rattle.speak_core.specs.Devices.{Observed, SinkSeen, SomeRose, NoneRose}
-use Rattle.speak_core.specs.Parts.{Writes}
+use Rattle.speak_core.specs.Parts.{AppendsSome, Writes}
 use Rattle.speak_core.specs.Plans.{Plan, saying_of}
 use Rattle.speak_core.specs.Stops.{status_of, text_of, last_text, AllCounts, IsAccepted, IsEnd, IsRefusalStop}
 use Rattle.speak_core.specs.Told.{TellsLast, TellsTwice, TellsShortOf, TellsStop, MayTell, no_text, wrong_words, refusal, outside, too_long}
+use Rattle.speak_core.proofs.Said.{some_none}
 use Rattle.speak_core.specs.declared.stop.Stop.{Stop}
 use Rattle.speak_core.specs.declared.stop.Stop.TheVariants.{Words, Refused, Outside, Memory, TooLong}
 
@@ -195,7 +194,7 @@ speaks_at words d err r b is done kept = go d.before.shelf.files d.before.source
   go (Some files) (Some input) s = record {
     plan = s.plan;
     accepted = s.accepted;
-    writes = subst (λ held. Writes (saying_of s.plan) (lines_for s.accepted.job input) (out_text s.accepted.job s.plan) d.before.out.held d.after.out.held d.before.err.held held b) (sym same) s.writes;
+    writes = subst (λ held. Writes (saying_of s.plan) (reports_for s.accepted.job (settings_in words).report) (lines_for s.accepted.job input) (out_text s.accepted.job s.plan) d.before.out.held d.after.out.held d.before.err.held held b) (sym same) s.writes;
   }
 
 -- what is known of a run that stopped
@@ -233,16 +232,20 @@ complete_end words (Some files) (Some input) d (Err Outside) n end k = λ e a l 
 complete_end words (Some files) (Some input) d (Err Memory) n end k = λ e a l calm. elim end [ inl e ↦ inr e | inr e ↦ inr e ]
 complete_end words (Some files) (Some input) d (Err TooLong) n end k = λ e a l calm. absurd (not_much input d.after.source.left (reads_input a.job) l (subst (λ o. IfSome o (λ job. reads_input job ≡ false → d.after.source.left ≡ Some input)) a.is_job k.kept) (k.long refl))
 
-tells_last : (n : ℕ) (old mid new : SinkSeen) (faults : List ℕ) (t : Stop) → n ≡ status_of t → (status_of t == 5) ≡ false → TellsStop n mid new t → old.faults ≤ mid.faults → AppendsPrefix old.held mid.held faults → TellsLast old new faults (text_of t)
-tells_last n old mid new faults t is other told later lines = record {
+tells_last : (n : ℕ) (old mid new : SinkSeen) (spoke : Spoke) (t : Stop) → n ≡ status_of t → (status_of t == 5) ≡ false → TellsStop n mid new t → old.faults ≤ mid.faults → AppendsSome (Told spoke) old.held mid.held → TellsLast old new spoke (text_of t)
+tells_last n old mid new spoke t is other told later lines = record {
   whole = elim told.whole [ inl five ↦ absurd (not_five t n is other five) | inr w ↦ elim w [ inl rose ↦ inl (let r : capped (mid.faults + 1) ≤ new.faults = rose in omega (arith, r, later)) | inr last ↦ inr (record { between = mid.held; lines = lines; last = last }) ] ];
   front = elim told.front [ inl five ↦ absurd (not_five t n is other five) | inr last ↦ record { between = mid.held; lines = lines; last = last } ];
 }
 
+-- nothing was told of lines
+told_none : (old mid : Option (List ℕ)) → mid ≡ old → AppendsSome (Told spoke_nothing) old mid
+told_none old mid same = subst (λ m. AppendsSome (Told spoke_nothing) old m) (sym same) (some_none false [] [] old)
+
 -- after a refusal nothing else stands in the errors
-pub told_words : (r : Result Bool Stop) (n : ℕ) (old mid new : SinkSeen) → IsEnd n r → IfErr r (λ s. TellsStop n mid new s) → n ≡ 2 → old.faults ≤ mid.faults → mid.held ≡ old.held → TellsLast old new [] (text_of Words)
+pub told_words : (r : Result Bool Stop) (n : ℕ) (old mid new : SinkSeen) → IsEnd n r → IfErr r (λ s. TellsStop n mid new s) → n ≡ 2 → old.faults ≤ mid.faults → mid.held ≡ old.held → TellsLast old new spoke_nothing (text_of Words)
 told_words r n old mid new end told is later same =
-    tells_last n old mid new [] Words is refl (subst (λ v. IfErr v (λ s. TellsStop n mid new s)) (stopped_at r Words n end is refl refl) told) later (subst (λ m. AppendsPrefix old.held m []) (sym same) (prefix_none old.held []))
+    tells_last n old mid new spoke_nothing Words is refl (subst (λ v. IfErr v (λ s. TellsStop n mid new s)) (stopped_at r Words n end is refl refl) told) later (told_none old.held mid.held same)
 
 told_text : (words : List (String Global)) (known : Option Files) (text : List ℕ) (T : List ℕ → Type 0) → IfSome known (λ files. IsRefusal words files text) → T text → IfSome known (λ files. (other : List ℕ) → Refuses words files other → T other)
 told_text words None text T one told = tt
@@ -253,19 +256,19 @@ told_text words (Some files) text T one told = λ other a.
 
 pub told_refusal : (words : List (String Global)) (known : Option Files) (r : Result Bool Stop) (n : ℕ) (old mid new : SinkSeen) → IsEnd n r → IfErr r (λ s. TellsStop n mid new s) → n ≡ 3 → old.faults ≤ mid.faults → mid.held ≡ old.held
     → IfErr r (λ s. IfSome known (λ files. StopsAs (Asks words files) s))
-    → IfSome known (λ files. (text : List ℕ) → Refuses words files text → TellsLast old new [] text)
+    → IfSome known (λ files. (text : List ℕ) → Refuses words files text → TellsLast old new spoke_nothing text)
 told_refusal words known r n old mid new end told is later same refusals =
     let at = refused_at r n end is in
-    told_text words known at.text.items (λ t. TellsLast old new [] t) (refusal_known words known r at.text at.is refusals)
-    (tells_last n old mid new [] (Refused at.text) is refl (subst (λ v. IfErr v (λ s. TellsStop n mid new s)) at.is told) later (subst (λ m. AppendsPrefix old.held m []) (sym same) (prefix_none old.held [])))
+    told_text words known at.text.items (λ t. TellsLast old new spoke_nothing t) (refusal_known words known r at.text at.is refusals)
+    (tells_last n old mid new spoke_nothing (Refused at.text) is refl (subst (λ v. IfErr v (λ s. TellsStop n mid new s)) at.is told) later (told_none old.held mid.held same))
 
 pub told_stop : (words : List (String Global)) (known : Option Files) (left : Option (List ℕ)) (r : Result Bool Stop) (t : Stop) (n : ℕ) (old mid new : SinkSeen) → IsEnd n r → IfErr r (λ s. TellsStop n mid new s) → n ≡ status_of t → (status_of t == 5) ≡ false → (status_of t == 3) ≡ false → old.faults ≤ mid.faults
-    → IfSome known (λ files. IfSome left (λ input. (output faults : List ℕ) → Owed words files input output faults → AppendsPrefix old.held mid.held faults))
-    → IfSome known (λ files. IfSome left (λ input. (output faults : List ℕ) → Owed words files input output faults → TellsLast old new faults (text_of t)))
+    → IfSome known (λ files. IfSome left (λ input. (output : List ℕ) (spoke : Spoke) → Owed words files input output spoke → AppendsSome (Told spoke) old.held mid.held))
+    → IfSome known (λ files. IfSome left (λ input. (output : List ℕ) (spoke : Spoke) → Owed words files input output spoke → TellsLast old new spoke (text_of t)))
 told_stop words None left r t n old mid new end told is other named later lines = tt
 told_stop words (Some files) None r t n old mid new end told is other named later lines = tt
-told_stop words (Some files) (Some input) r t n old mid new end told is other named later lines = λ output faults owed.
-    tells_last n old mid new faults t is other (subst (λ v. IfErr v (λ s. TellsStop n mid new s)) (stopped_at r t n end is other named) told) later (lines output faults owed)
+told_stop words (Some files) (Some input) r t n old mid new end told is other named later lines = λ output spoke owed.
+    tells_last n old mid new spoke t is other (subst (λ v. IfErr v (λ s. TellsStop n mid new s)) (stopped_at r t n end is other named) told) later (lines output spoke owed)
 
 may_tell : (words : List (String Global)) (files : Files) (input : List ℕ) (d : Observed) (s : Stop) → Known words (Some files) (Some input) d (Err s) → MayTell words d files input (last_text s)
 may_tell words files input d Words k = wrong_words (k.wrong refl)
@@ -276,11 +279,11 @@ may_tell words files input d TooLong k = too_long (k.long refl)
 
 pub told_short : (words : List (String Global)) (known : Option Files) (left : Option (List ℕ)) (d : Observed) (r : Result Bool Stop) (n : ℕ) (mid : Option (List ℕ)) → IsEnd n r → n ≡ 5 → Known words known left d r
     → IfErr r (λ s. TellsTwice mid d.after.err.held (last_text s))
-    → IfSome known (λ files. IfSome left (λ input. (output faults : List ℕ) → Owed words files input output faults → AppendsPrefix d.before.err.held mid faults))
-    → IfSome known (λ files. IfSome left (λ input. (output faults : List ℕ) → Owed words files input output faults → TellsShortOf words d files input faults))
+    → IfSome known (λ files. IfSome left (λ input. (output : List ℕ) (spoke : Spoke) → Owed words files input output spoke → AppendsSome (Told spoke) d.before.err.held mid))
+    → IfSome known (λ files. IfSome left (λ input. (output : List ℕ) (spoke : Spoke) → Owed words files input output spoke → TellsShortOf words d files input spoke))
 told_short words None left d r n mid end five k twice lines = tt
 told_short words (Some files) None d r n mid end five k twice lines = tt
 told_short words (Some files) (Some input) d (Ok true) n mid end five k twice lines = absurd (omega (arith, end, five))
 told_short words (Some files) (Some input) d (Ok false) n mid end five k twice lines = absurd (omega (arith, end, five))
-told_short words (Some files) (Some input) d (Err s) n mid end five k twice lines = λ output faults owed.
-    record { between = mid; text = last_text s; cause = may_tell words files input d s k; lines = lines output faults owed; last = twice }
+told_short words (Some files) (Some input) d (Err s) n mid end five k twice lines = λ output spoke owed.
+    record { between = mid; text = last_text s; cause = may_tell words files input d s k; lines = lines output spoke owed; last = twice }

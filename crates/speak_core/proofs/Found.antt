@@ -1,7 +1,6 @@
 -- From the files of the rules to what is asked for.
-use Rattle.std.proofs.Common.{◌≡◌, ◌<◌, ◌≤◌, ℕ, List, [], ◌∷◌, ◌++◌, None, Some, Ok, Err, Vec, Global, Result, Option, inl, inr, IfSome, IfOk, IfErr, OnOk, length, slice_get, refl, sym, ap, ◌∙◌, subst, arith}
+use Rattle.std.proofs.Common.{◌≡◌, ℕ, List, [], ◌++◌, None, Some, Ok, Err, Vec, Global, Result, Option, inl, inr, IfSome, IfOk, IfErr, OnOk, slice_get, refl, sym, ap, ◌∙◌, subst, arith}
 use Rattle.std.proofs.lemmas.Bool.{cases_lt}
-use Rattle.std.proofs.lemmas.Option.{IfSome_then}
 use Rattle.std.specs.Prelude.{MatchResult}
 use Rattle.std.specs.declared.alloc.AllocError.{AllocError}
 use Rattle.norm_base.specs.Files.{Files, file_of}
@@ -16,11 +15,11 @@ use Rattle.thrax_meaning.specs.declared.why.Why.{Why}
 use Rattle.thrax_link.specs.Linking.{Linked, Outcome, refuses, exporting}
 use Rattle.speak_core.specs.Accepted.{ClassifierOf, RequestAsks, IsOnly, NamesAsk, OrText, PlanOf, RulesOf, VerbaliserOf, absent, all_rules, at_fault, has_both, linked, named, need_of, no_classifier, no_verbaliser, planned, read, rewrites_empty, unlinked, unplanned}
 use Rattle.speak_core.specs.Requests.{Request}
-use Rattle.speak_core.specs.Loaded.{Builds, Checks, ChecksBy, Finds, FindsPlanned, IsGrammarFile, IsSetupFile, Planned, SaySame, SpeaksBy, StopsAs, TellsFirstEmpty, TellsText, expressions_of}
+use Rattle.speak_core.specs.Loaded.{Builds, Checks, ChecksBy, Finds, FindsPlanned, IsGrammarFile, IsSetupFile, SaySame, SpeaksBy, StopsAs, TellsFirstEmpty, TellsText, expressions_of}
 use Rattle.speak_core.specs.Plans.{Plan, rules_of, says_in}
 use Rattle.speak_core.specs.Stops.{IsDeviceStop}
 use Rattle.speak_core.specs.Texts.{absent_text, empty_text, refusal_text, setup_text}
-use Rattle.speak_core.specs.declared.speakers.Speaker.{Speaker}
+use Rattle.speak_core.specs.declared.speakers.Loaded.{Loaded}
 use Rattle.speak_core.specs.declared.stop.Stop.{Stop}
 use Rattle.speak_core.specs.declared.stop.Stop.TheVariants as stop
 use Rattle.speak_core.specs.declared.requests.Mode.{Mode}
@@ -173,7 +172,7 @@ module _ (files : Files) (mode : Mode) (names : SetupNames) where
       once other (planned more p clear) = ap (λ x. Ok x) (same_plan more p)
 
     -- what building the rules of a plan comes to
-    pub builds_names : (r : Result Speaker Stop) → Builds names plan r → FindsPlanned SpeaksBy (NamesAsk files mode names) r
+    pub builds_names : (r : Result Loaded Stop) → Builds names plan r → FindsPlanned SpeaksBy (NamesAsk files mode names) r
     builds_names (Ok s) h = record { plan = plan; is_only = planned_only h.1; fits = h.0 }
     builds_names (Err stop.Words) h = tt
     builds_names (Err (stop.Refused text)) h = subst (λ t. IsOnly (NamesAsk files mode names) (Err t)) (sym h.4) (empty_only h.0 h.1 h.2 h.3)

@@ -4,6 +4,7 @@ pub mod SoFar
 pub mod Sums
 pub mod Named
 pub mod Found
+pub mod Hearing
 pub mod RuleLines
 pub mod Doing
 pub mod Runs

@@ -1,5 +1,5 @@
 -- The lines of rules, one more at a time.
-use Rattle.std.proofs.Common.{◌≡◌, ◌<◌, ◌-◌, ◌+◌, ◌∙◌, ◌++◌, ℕ, zero, suc, List, [], ◌∷◌, Some, All, map, take, drop, length, slice_get, refl, sym, ap, arith, append_assoc, subst}
+use Rattle.std.proofs.Common.{◌≡◌, ◌-◌, ◌∙◌, ◌++◌, ℕ, zero, suc, List, [], ◌∷◌, Some, All, map, take, drop, length, slice_get, refl, sym, ap, arith, append_assoc, subst}
 use Rattle.core_expressions.specs.Views.{expression_of}
 use Rattle.core_expressions.specs.declared.expressions.Expr.{Expr as Tree}
 use Rattle.weighted_relations.specs.Expressions.{Expression}

@@ -10,20 +10,22 @@ use Rattle.norm_base.specs.Files.{Files}
 use Rattle.norm_base.proofs.Front.{prefix_none}
 use Rattle.normaliser.specs.Lines.{Answer}
 use Rattle.speak_core.specs.Accepted.{Accepted, Asks, IsOnly, JobAsks, OrText, Refused}
-use Rattle.speak_core.specs.Answers.{AllSaid, told}
-use Rattle.speak_core.specs.Requests.{job_in}
+use Rattle.speak_core.specs.Answers.{AllSaid, Tells}
+use Rattle.speak_words.specs.declared.asked.Settings.{Settings}
+use Rattle.speak_core.specs.Requests.{job_in, settings_in}
 use Rattle.speak_core.specs.Devices.{Observed}
 use Rattle.speak_core.specs.Loaded.{Planned, StopsAs}
-use Rattle.speak_core.specs.Owed.{Owed, SpeaksInput, nothing, of_job}
-use Rattle.speak_core.specs.Outputs.{lines_for, out_text, reads_input}
-use Rattle.speak_core.specs.Parts.{Writes}
+use Rattle.speak_core.specs.Owed.{Owed, SpeaksInput, Spoke, Told, nothing, of_job}
+use Rattle.speak_core.specs.Outputs.{lines_for, out_text, reads_input, reports_for}
+use Rattle.speak_core.specs.Parts.{AppendsOne, AppendsSome, Writes}
 use Rattle.speak_core.specs.Plans.{Plan, saying_of}
 use Rattle.speak_core.specs.Stops.{AllCounts, IsReadingStop, IsRefusalStop}
-use Rattle.speak_core.specs.Works.{Does, WorkCounts, work_lines, work_says, work_text}
+use Rattle.speak_core.specs.Works.{Does, WorkCounts, work_lines, work_reports, work_says, work_text}
 use Rattle.speak_core.specs.declared.stop.Stop.{Stop}
 use Rattle.speak_core.specs.declared.stop.Stop.TheVariants as stop
 use Rattle.speak_core.specs.declared.works.Work.{Work}
 use Rattle.speak_core.proofs.Found.{stops_through}
+use Rattle.speak_core.proofs.Said.{some_none}
 
 module _ (words : List (String Global)) (job : Job) (is_job : Some job ≡ job_in words) where
   same_job : (files : Files) (asked : OrText Plan) (s : Asks words files asked) → s.job ≡ job
@@ -58,41 +60,47 @@ module _ (words : List (String Global)) (job : Job) (is_job : Some job ≡ job_i
       accepted = (asks_only files (Ok l.plan) l.is_only).found
 
       module _ (old new : Option (List ℕ)) (input : List ℕ) where
-        owed_output : (output faults : List ℕ) → ((answers : List Answer) → AllSaid (work_says w) (work_lines w input) answers → AppendsPrefix old new (work_text w answers)) → Owed words files input output faults → AppendsPrefix old new output
-        owed_output output faults front (nothing none) = absurd (none l.plan accepted)
-        owed_output output faults front (of_job plan answers a said) = subst (AppendsPrefix old new) (same_text plan answers a) (front answers (by_its_work input plan answers a said))
+        owed_output : (output : List ℕ) (spoke : Spoke) → ((answers : List Answer) → AllSaid (work_says w) (work_lines w input) answers → AppendsPrefix old new (work_text w answers)) → Owed words files input output spoke → AppendsPrefix old new output
+        owed_output output spoke front (nothing none) = absurd (none l.plan accepted)
+        owed_output output spoke front (of_job plan answers a said) = subst (AppendsPrefix old new) (same_text plan answers a) (front answers (by_its_work input plan answers a said))
 
-        owed_faults : (output faults : List ℕ) → ((answers : List Answer) → AllSaid (work_says w) (work_lines w input) answers → AppendsPrefix old new (told 1 answers)) → Owed words files input output faults → AppendsPrefix old new faults
-        owed_faults output faults front (nothing none) = absurd (none l.plan accepted)
-        owed_faults output faults front (of_job plan answers a said) = front answers (by_its_work input plan answers a said)
+        owed_told : (report : Bool) → (settings_in words).report ≡ report → (output : List ℕ) (spoke : Spoke) → ((answers : List Answer) → AllSaid (work_says w) (work_lines w input) answers → AppendsSome (Tells (work_reports w report) (work_lines w input) answers) old new)
+            → Owed words files input output spoke → AppendsSome (Told spoke) old new
+        owed_told report wants output spoke front (nothing none) = absurd (none l.plan accepted)
+        owed_told report wants output spoke front (of_job plan answers a said) =
+            let reports : work_reports w report ≡ reports_for a.job (settings_in words).report = l.fits.reports report ∙ (ap (λ j. reports_for j report) (sym (same_job files (Ok plan) a)) ∙ ap (reports_for a.job) (sym wants)) in
+            let lines : work_lines w input ≡ lines_for a.job input = l.fits.lines input ∙ ap (λ j. lines_for j input) (sym (same_job files (Ok plan) a)) in
+            subst (λ r. AppendsSome (Tells r (lines_for a.job input) answers) old new) reports
+            (subst (λ x. AppendsSome (Tells (work_reports w report) x answers) old new) lines (front answers (by_its_work input plan answers a said)))
 
     pub run_output : (old new : Option (List ℕ)) (known : Option Files) (left : Option (List ℕ)) → IfSome known (λ files. Planned (Does job) (JobAsks files job) w)
         → IfSome left (λ input. (answers : List Answer) → AllSaid (work_says w) (work_lines w input) answers → AppendsPrefix old new (work_text w answers))
-        → IfSome known (λ files. IfSome left (λ input. (output faults : List ℕ) → Owed words files input output faults → AppendsPrefix old new output))
+        → IfSome known (λ files. IfSome left (λ input. (output : List ℕ) (spoke : Spoke) → Owed words files input output spoke → AppendsPrefix old new output))
     run_output old new None left l front = tt
     run_output old new (Some files) None l front = tt
-    run_output old new (Some files) (Some input) l front = λ output faults. owed_output files l old new input output faults front
+    run_output old new (Some files) (Some input) l front = λ output spoke. owed_output files l old new input output spoke front
 
-    pub run_faults : (old new : Option (List ℕ)) (known : Option Files) (left : Option (List ℕ)) → IfSome known (λ files. Planned (Does job) (JobAsks files job) w)
-        → IfSome left (λ input. (answers : List Answer) → AllSaid (work_says w) (work_lines w input) answers → AppendsPrefix old new (told 1 answers))
-        → IfSome known (λ files. IfSome left (λ input. (output faults : List ℕ) → Owed words files input output faults → AppendsPrefix old new faults))
-    run_faults old new None left l front = tt
-    run_faults old new (Some files) None l front = tt
-    run_faults old new (Some files) (Some input) l front = λ output faults. owed_faults files l old new input output faults front
+    pub run_told : (report : Bool) → (settings_in words).report ≡ report → (old new : Option (List ℕ)) (known : Option Files) (left : Option (List ℕ)) → IfSome known (λ files. Planned (Does job) (JobAsks files job) w)
+        → IfSome left (λ input. (answers : List Answer) → AllSaid (work_says w) (work_lines w input) answers → AppendsSome (Tells (work_reports w report) (work_lines w input) answers) old new)
+        → IfSome known (λ files. IfSome left (λ input. (output : List ℕ) (spoke : Spoke) → Owed words files input output spoke → AppendsSome (Told spoke) old new))
+    run_told report wants old new None left l front = tt
+    run_told report wants old new (Some files) None l front = tt
+    run_told report wants old new (Some files) (Some input) l front = λ output spoke. owed_told files l old new input report wants output spoke front
 
-    all_spoken : (known : Option Files) (left : Option (List ℕ)) (d : Observed) (is_read : Bool) → IfSome known (λ files. Planned (Does job) (JobAsks files job) w)
-        → IfSome left (λ input. Writes (work_says w) (work_lines w input) (work_text w) d.before.out.held d.after.out.held d.before.err.held d.after.err.held is_read)
+    all_spoken : (report : Bool) → (settings_in words).report ≡ report → (known : Option Files) (left : Option (List ℕ)) (d : Observed) (is_read : Bool) → IfSome known (λ files. Planned (Does job) (JobAsks files job) w)
+        → IfSome left (λ input. Writes (work_says w) (work_reports w report) (work_lines w input) (work_text w) d.before.out.held d.after.out.held d.before.err.held d.after.err.held is_read)
         → IfSome known (λ files. IfSome left (λ input. SpeaksInput words d is_read files input))
-    all_spoken None left d is_read l h = tt
-    all_spoken (Some files) None d is_read l h = tt
-    all_spoken (Some files) (Some input) d is_read l h = record {
+    all_spoken report wants None left d is_read l h = tt
+    all_spoken report wants (Some files) None d is_read l h = tt
+    all_spoken report wants (Some files) (Some input) d is_read l h = record {
       plan = l.plan;
       accepted = record { job = job; is_job = sym is_job; asks = l.is_only.found };
       writes = record {
         answers = h.answers;
         said = l.fits.by_plan input h.answers h.said;
         output = subst (Appends d.before.out.held d.after.out.held) (l.fits.text h.answers) h.output;
-        faults = h.faults;
+        faults = subst (λ r. AppendsOne (Tells r (lines_for job input) h.answers) d.before.err.held d.after.err.held) (l.fits.reports report ∙ ap (reports_for job) (sym wants))
+            (subst (λ x. AppendsOne (Tells (work_reports w report) x h.answers) d.before.err.held d.after.err.held) (l.fits.lines input) h.faults);
         read = h.read;
       };
     }
@@ -101,11 +109,11 @@ module _ (words : List (String Global)) (job : Job) (is_job : Some job ≡ job_i
     written_of None P is_read h = tt
     written_of (Some input) P is_read h = h
 
-    pub run_speaks : (known : Option Files) (left : Option (List ℕ)) (d : Observed) (r : Result Bool Stop) → IfSome known (λ files. Planned (Does job) (JobAsks files job) w)
-        → IfSome left (λ input. IfOk r (Writes (work_says w) (work_lines w input) (work_text w) d.before.out.held d.after.out.held d.before.err.held d.after.err.held))
+    pub run_speaks : (report : Bool) → (settings_in words).report ≡ report → (known : Option Files) (left : Option (List ℕ)) (d : Observed) (r : Result Bool Stop) → IfSome known (λ files. Planned (Does job) (JobAsks files job) w)
+        → IfSome left (λ input. IfOk r (Writes (work_says w) (work_reports w report) (work_lines w input) (work_text w) d.before.out.held d.after.out.held d.before.err.held d.after.err.held))
         → IfOk r (λ is_read. IfSome known (λ files. IfSome left (λ input. SpeaksInput words d is_read files input)))
-    run_speaks known left d (Ok is_read) l h = all_spoken known left d is_read l (written_of left (λ input. Writes (work_says w) (work_lines w input) (work_text w) d.before.out.held d.after.out.held d.before.err.held d.after.err.held) is_read h)
-    run_speaks known left d (Err s) l h = tt
+    run_speaks report wants known left d (Ok is_read) l h = all_spoken report wants known left d is_read l (written_of left (λ input. Writes (work_says w) (work_reports w report) (work_lines w input) (work_text w) d.before.out.held d.after.out.held d.before.err.held d.after.err.held) is_read h)
+    run_speaks report wants known left d (Err s) l h = tt
 
     -- words and files that are accepted aren't refused
     pub run_accepts : (known : Option Files) → IfSome known (λ files. Planned (Does job) (JobAsks files job) w) → IfSome known (λ files. (text : List ℕ) → Refused words files text → ⊥)
@@ -155,20 +163,24 @@ pub run_ends : {T : Type 0} (words : List (String Global)) (job : Job) (is_job :
 run_ends words job is_job reads now (Ok x) same end = of_words words job is_job (λ j. reads_input j ≡ true → IsAtEnd now) (λ h. end (same ∙ h))
 run_ends words job is_job reads now (Err s) same end = tt
 
+-- and how it is wanted
+pub found_report : {A : Type 0} (f : A → Settings) (s : Settings) (o : Option A) (a : A) → o ≡ Some a → IfSome o (λ x. f x ≡ s) → s.report ≡ (f a).report
+found_report f s o a is e = let own : f a ≡ s = subst (λ q. IfSome q (λ x. f x ≡ s)) is e in ap (λ (t : Settings). t.report) (sym own)
+
 -- the job that was read
 pub found_job : {A : Type 0} (f : A → Job) (o : Option A) (a : A) {x : Option Job} → o ≡ Some a → option_map f o ≡ x → Some (f a) ≡ x
 found_job f o a is e = sym (ap (option_map f) is) ∙ e
 
 -- nothing was written
-pub owes_nothing : (words : List (String Global)) (known : Option Files) (left old : Option (List ℕ)) → IfSome known (λ files. IfSome left (λ input. (output faults : List ℕ) → Owed words files input output faults → AppendsPrefix old old output))
+pub owes_nothing : (words : List (String Global)) (known : Option Files) (left old : Option (List ℕ)) → IfSome known (λ files. IfSome left (λ input. (output : List ℕ) (spoke : Spoke) → Owed words files input output spoke → AppendsPrefix old old output))
 owes_nothing words None left old = tt
 owes_nothing words (Some files) None old = tt
-owes_nothing words (Some files) (Some input) old = λ output faults owed. prefix_none old output
+owes_nothing words (Some files) (Some input) old = λ output spoke owed. prefix_none old output
 
-pub owes_no_faults : (words : List (String Global)) (known : Option Files) (left old : Option (List ℕ)) → IfSome known (λ files. IfSome left (λ input. (output faults : List ℕ) → Owed words files input output faults → AppendsPrefix old old faults))
-owes_no_faults words None left old = tt
-owes_no_faults words (Some files) None old = tt
-owes_no_faults words (Some files) (Some input) old = λ output faults owed. prefix_none old faults
+pub tells_nothing : (words : List (String Global)) (known : Option Files) (left old : Option (List ℕ)) → IfSome known (λ files. IfSome left (λ input. (output : List ℕ) (spoke : Spoke) → Owed words files input output spoke → AppendsSome (Told spoke) old old))
+tells_nothing words None left old = tt
+tells_nothing words (Some files) None old = tt
+tells_nothing words (Some files) (Some input) old = λ output spoke owed. some_none spoke.report spoke.lines spoke.answers old
 
 -- so a fault of what is refused is none of the lines'
 pub not_refused : (words : List (String Global)) (known : Option Files) (P : Type 0) → IfSome known (λ files. (text : List ℕ) → Refused words files text → ⊥) → IfSome known (λ files. (text : List ℕ) → Refused words files text → P)

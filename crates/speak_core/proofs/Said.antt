@@ -1,19 +1,22 @@
 -- What lines say: each says one thing, and more lines say more.
-use Rattle.std.proofs.Common.{◌≡◌, ℕ, ◌+◌, suc, List, [], ◌∷◌, ◌++◌, Bool, true, ◌&&◌, length, refl, sym, ap, ◌∙◌, subst, append_assoc, append-nil, length-append, arith}
+use Rattle.std.proofs.Common.{◌≡◌, ℕ, ◌+◌, suc, List, [], ◌∷◌, ◌++◌, Bool, true, ◌&&◌, length, map, refl, sym, ap, ◌∙◌, subst, append_assoc, append-nil, arith}
 use Rattle.std.proofs.KnownBytes.{Appends-nil, Appends-trans}
 use Rattle.std.proofs.lemmas.List.Folds.{list_all-append}
 use Rattle.std.specs.Io.KnownBytes.{Appends}
 use Rattle.std.specs.declared.option.Option.{Option}
 use Rattle.norm_base.specs.Bytes.{AppendsPrefix}
-use Rattle.norm_base.proofs.Front.{prefix_all, prefix_first, prefix_then}
+use Rattle.norm_base.proofs.Front.{prefix_first, prefix_none, prefix_then}
 use Rattle.normaliser.specs.Lines.{Answer, Saying}
 use Rattle.normaliser.proofs.Alike.{classified_alike, words_alike}
 use Rattle.normaliser.proofs.Once.{classified_once, words_once}
 use Rattle.weighted_relations.specs.RelationLaws.{same_sym}
 use Rattle.weighted_relations.specs.Relations.{Relation, Same}
-use Rattle.speak_core.specs.Answers.{AllSaid, all_read, fault_text, is_read, told, words_text, written}
+use Rattle.speak_core.specs.Answers.{AllSaid, Tells, all_read, is_read, line_text, told, told_all, words_text, written}
+use Rattle.shared_cascade.specs.Tallies.{no_tally}
+use Rattle.shared_cascade.specs.declared.tallies.Tally.{Tally}
+use Rattle.speak_core.specs.Reports.{AllTallied, if_wanted, total_text, with_tallies, with_tally}
 use Rattle.speak_core.specs.Loaded.{SaySame, SaysOnce}
-use Rattle.speak_core.specs.Parts.{Speaks, says_of}
+use Rattle.speak_core.specs.Parts.{AppendsOne, AppendsSome, Speaks, TellsSome, says_of}
 use Rattle.speak_core.specs.Plans.{says_in}
 use Rattle.speak_core.specs.declared.requests.Mode.{Mode}
 use Rattle.speak_core.specs.declared.requests.Mode.TheVariants.{Classify, Speak}
@@ -36,16 +39,44 @@ pub written_append : (a b : List Answer) → written (a ++ b) ≡ written a ++ w
 written_append [] b = refl
 written_append (c ∷ a) b = ap (λ t. words_text c ++ t) (written_append a b) ∙ sym (append_assoc (words_text c) (written a) (written b))
 
-pub told_append : (n m : ℕ) (a b : List Answer) → m ≡ n + length a → told n (a ++ b) ≡ told n a ++ told m b
-told_append n m [] b e = let f : n ≡ m = omega (arith, e) in ap (λ k. told k b) f
-told_append n m (c ∷ a) b e =
-    ap (λ t. fault_text n c ++ t) (told_append (n + 1) m a b (omega (arith, e))) ∙ sym (append_assoc (fault_text n c) (told (n + 1) a) (told m b))
+pub told_append : (r : Bool) (n m : ℕ) (a b : List Answer) (ts us : List Tally) → length ts ≡ length a → m ≡ n + length a → told r n (a ++ b) (ts ++ us) ≡ told r n a ts ++ told r m b us
+told_append r n m [] b [] us l e = let f : n ≡ m = omega (arith, e) in ap (λ k. told r k b us) f
+told_append r n m [] b (t ∷ ts) us l e = absurd (omega (arith, l))
+told_append r n m (c ∷ a) b [] us l e = absurd (omega (arith, l))
+told_append r n m (c ∷ a) b (t ∷ ts) us l e =
+    ap (λ x. line_text r n c t ++ x) (told_append r (n + 1) m a b ts us (omega (arith, l)) (omega (arith, e))) ∙ sym (append_assoc (line_text r n c t) (told r (n + 1) a ts) (told r m b us))
+
+-- tallies
+
+pub tallied_count : (xs : List (List ℕ)) (ts : List Tally) → AllTallied xs ts → length ts ≡ length xs
+tallied_count [] [] p = refl
+tallied_count [] (t ∷ ts) p = absurd p
+tallied_count (x ∷ xs) [] p = absurd p
+tallied_count (x ∷ xs) (t ∷ ts) p = ap suc (tallied_count xs ts p.1)
+
+pub tallied_append : (xs ys : List (List ℕ)) (ts us : List Tally) → AllTallied xs ts → AllTallied ys us → AllTallied (xs ++ ys) (ts ++ us)
+tallied_append [] ys [] us p q = q
+tallied_append [] ys (t ∷ ts) us p q = absurd p
+tallied_append (x ∷ xs) ys [] us p q = absurd p
+tallied_append (x ∷ xs) ys (t ∷ ts) us p q = (p.0, tallied_append xs ys ts us p.1 q)
+
+-- lines of which nothing was counted
+abbrev pub none_of : List (List ℕ) → List Tally
+none_of xs = map (λ x. no_tally) xs
+
+pub none_tallied : (xs : List (List ℕ)) → AllTallied xs (none_of xs)
+none_tallied [] = tt
+none_tallied (x ∷ xs) = (record { outcomes = []; counted = refl; unsearched = λ h. refl }, none_tallied xs)
+
+pub with_append : (t : Tally) (ts us : List Tally) → with_tallies t (ts ++ us) ≡ with_tallies (with_tallies t ts) us
+with_append t [] us = refl
+with_append t (u ∷ ts) us = with_append (with_tally t u) ts us
 
 pub written_more : (a : List Answer) (c : Answer) → written (a ++ c ∷ []) ≡ written a ++ words_text c
 written_more a c = written_append a (c ∷ []) ∙ ap (λ t. written a ++ t) (append-nil (words_text c))
 
-pub told_more : (n m : ℕ) (a : List Answer) (c : Answer) → m ≡ n + length a → told n (a ++ c ∷ []) ≡ told n a ++ fault_text m c
-told_more n m a c e = told_append n m a (c ∷ []) e ∙ ap (λ t. told n a ++ t) (append-nil (fault_text m c))
+pub told_more : (r : Bool) (n m : ℕ) (a : List Answer) (c : Answer) (ts : List Tally) (u : Tally) → length ts ≡ length a → m ≡ n + length a → told r n (a ++ c ∷ []) (ts ++ u ∷ []) ≡ told r n a ts ++ line_text r m c u
+told_more r n m a c ts u l e = told_append r n m a (c ∷ []) ts (u ∷ []) l e ∙ ap (λ t. told r n a ts ++ t) (append-nil (line_text r m c u))
 
 pub all_said_to : (P Q : Saying) → ((line : List ℕ) (a : Answer) → P line a → Q line a) → (all : List (List ℕ)) (answers : List Answer) → AllSaid P all answers → AllSaid Q all answers
 all_said_to P Q f [] [] p = tt
@@ -99,26 +130,45 @@ module _ (P : Saying) where
       let h = halves xs ys all p in
       subst (AppendsPrefix old new) (sym (ap written h.parts ∙ written_append h.front h.back)) (prefix_first old new (written h.front) (written h.back) (front h.front h.first))
 
-  pub faults_of_first : (n : ℕ) (xs ys : List (List ℕ)) (old new : Option (List ℕ)) → ((a : List Answer) → AllSaid P xs a → AppendsPrefix old new (told n a)) → (all : List Answer) → AllSaid P (xs ++ ys) all → AppendsPrefix old new (told n all)
-  faults_of_first n xs ys old new front all p =
-      let h = halves xs ys all p in
-      subst (AppendsPrefix old new) (sym (ap (told n) h.parts ∙ told_append n (n + length h.front) h.front h.back refl)) (prefix_first old new (told n h.front) (told (n + length h.front) h.back) (front h.front h.first))
+  module _ (r : Bool) where
+    pub faults_of_first : (n : ℕ) (xs ys : List (List ℕ)) (old new : Option (List ℕ)) → ((a : List Answer) → AllSaid P xs a → TellsSome r n xs a old new) → (all : List Answer) → AllSaid P (xs ++ ys) all → TellsSome r n (xs ++ ys) all old new
+    faults_of_first n xs ys old new front all p =
+        let h = halves xs ys all p in
+        let f = front h.front h.first in
+        let count = tallied_count xs f.tallies f.tallied ∙ sym (said_count xs h.front h.first) in
+        record {
+          tallies = f.tallies ++ none_of ys;
+          tallied = tallied_append xs ys f.tallies (none_of ys) f.tallied (none_tallied ys);
+          front = subst (AppendsPrefix old new) (sym (ap (λ a. told r n a (f.tallies ++ none_of ys)) h.parts ∙ told_append r n (n + length h.front) h.front h.back f.tallies (none_of ys) count refl))
+              (prefix_first old new (told r n h.front f.tallies) (told r (n + length h.front) h.back (none_of ys)) f.front);
+        }
 
-  -- no lines were spoken
-  pub speaks_none : (n : ℕ) (out err : Option (List ℕ)) → Speaks P n [] out out err err true
-  speaks_none n out err = record { answers = []; said = tt; words = Appends-nil out; faults = Appends-nil err; read = refl }
+    -- where nothing was told
+    pub tells_none : (n : ℕ) (xs : List (List ℕ)) (answers : List Answer) (old : Option (List ℕ)) → TellsSome r n xs answers old old
+    tells_none n xs answers old = record { tallies = none_of xs; tallied = none_tallied xs; front = prefix_none old (told r n answers (none_of xs)) }
+
+    -- no lines were spoken
+    pub speaks_none : (n : ℕ) (t : Tally) (out err : Option (List ℕ)) → Speaks P r n t t [] out out err err true
+    speaks_none n t out err = record { answers = []; said = tt; tallies = []; tallied = tt; words = Appends-nil out; faults = Appends-nil err; total = refl; read = refl }
 
   -- some lines, and then those after them
-  module _ (n m : ℕ) (xs : List (List ℕ)) (out mid out' err emid err' : Option (List ℕ)) (r : Bool) (spoken : Speaks P n xs out mid err emid r) (next : m ≡ n + length xs) where
+  module _ (w : Bool) (n m : ℕ) (t t' : Tally) (xs : List (List ℕ)) (out mid out' err emid err' : Option (List ℕ)) (r : Bool) (spoken : Speaks P w n t t' xs out mid err emid r) (next : m ≡ n + length xs) where
+    counts : (a : List Answer) → AllSaid P xs a → length spoken.tallies ≡ length a
+    counts a p = tallied_count xs spoken.tallies spoken.tallied ∙ sym (said_count xs a p)
+
     after : (a : List Answer) → AllSaid P xs a → m ≡ n + length a
     after a p = let c = said_count xs a p in omega (arith, next, c)
 
-    pub speaks_more : (ys : List (List ℕ)) (q : Bool) → Speaks P m ys mid out' emid err' q → Speaks P n (xs ++ ys) out out' err err' (r && q)
-    speaks_more ys q more = record {
+    pub speaks_more : (t'' : Tally) (ys : List (List ℕ)) (q : Bool) → Speaks P w m t' t'' ys mid out' emid err' q → Speaks P w n t t'' (xs ++ ys) out out' err err' (r && q)
+    speaks_more t'' ys q more = record {
+      tallies = spoken.tallies ++ more.tallies;
+      tallied = tallied_append xs ys spoken.tallies more.tallies spoken.tallied more.tallied;
+      total = more.total ∙ ap (λ u. with_tallies u more.tallies) spoken.total ∙ sym (with_append t spoken.tallies more.tallies);
       answers = spoken.answers ++ more.answers;
       said = said_append xs ys spoken.answers more.answers spoken.said more.said;
       words = subst (Appends out out') (sym (written_append spoken.answers more.answers)) (Appends-trans out mid out' (written spoken.answers) (written more.answers) spoken.words more.words);
-      faults = subst (Appends err err') (sym (told_append n m spoken.answers more.answers (after spoken.answers spoken.said))) (Appends-trans err emid err' (told n spoken.answers) (told m more.answers) spoken.faults more.faults);
+      faults = subst (Appends err err') (sym (told_append w n m spoken.answers more.answers spoken.tallies more.tallies (counts spoken.answers spoken.said) (after spoken.answers spoken.said)))
+          (Appends-trans err emid err' (told w n spoken.answers spoken.tallies) (told w m more.answers more.tallies) spoken.faults more.faults);
       read = ap (λ b. b && q) spoken.read ∙ ap (λ b. all_read spoken.answers && b) more.read ∙ sym (list_all-append is_read spoken.answers more.answers);
     }
 
@@ -129,8 +179,50 @@ module _ (P : Saying) where
         let wrote = subst (λ a. Appends out mid (written a)) (said_once once xs spoken.answers h.front spoken.said h.first) spoken.words in
         subst (AppendsPrefix out out') (sym (ap written h.parts ∙ written_append h.front h.back)) (prefix_then out mid out' (written h.front) (written h.back) wrote (front h.back h.second))
 
-    pub faults_then : SaysOnce P → (ys : List (List ℕ)) → ((a : List Answer) → AllSaid P ys a → AppendsPrefix emid err' (told m a)) → (all : List Answer) → AllSaid P (xs ++ ys) all → AppendsPrefix err err' (told n all)
+    pub faults_then : SaysOnce P → (ys : List (List ℕ)) → ((a : List Answer) → AllSaid P ys a → TellsSome w m ys a emid err') → (all : List Answer) → AllSaid P (xs ++ ys) all → TellsSome w n (xs ++ ys) all err err'
     faults_then once ys front all p =
         let h = halves xs ys all p in
-        let wrote = subst (λ a. Appends err emid (told n a)) (said_once once xs spoken.answers h.front spoken.said h.first) spoken.faults in
-        subst (AppendsPrefix err err') (sym (ap (told n) h.parts ∙ told_append n m h.front h.back (after h.front h.first))) (prefix_then err emid err' (told n h.front) (told m h.back) wrote (front h.back h.second))
+        let ts = spoken.tallies in
+        let f = front h.back h.second in
+        let wrote = subst (λ a. Appends err emid (told w n a ts)) (said_once once xs spoken.answers h.front spoken.said h.first) spoken.faults in
+        record {
+          tallies = ts ++ f.tallies;
+          tallied = tallied_append xs ys ts f.tallies spoken.tallied f.tallied;
+          front = subst (AppendsPrefix err err') (sym (ap (λ a. told w n a (ts ++ f.tallies)) h.parts ∙ told_append w n m h.front h.back ts f.tallies (counts h.front h.first) (after h.front h.first)))
+              (prefix_then err emid err' (told w n h.front ts) (told w m h.back f.tallies) wrote f.front);
+        }
+
+-- after the last line the total is told
+module _ (P : Saying) (w : Bool) (t : Tally) (all : List (List ℕ)) (answers : List Answer) (said : AllSaid P all answers) (tallies : List Tally) (tallied : AllTallied all tallies) (total : t ≡ with_tallies no_tally tallies) (old mid new : Option (List ℕ)) (faults : Appends old mid (told w 1 answers tallies)) (n : ℕ) (counted : n ≡ length all) where
+  total_is : if_wanted w (total_text n t) ≡ if_wanted w (total_text (length answers) (with_tallies no_tally tallies))
+  total_is = ap (λ k. if_wanted w (total_text k t)) (counted ∙ sym (said_count P all answers said)) ∙ ap (λ u. if_wanted w (total_text (length answers) u)) total
+
+  pub told_whole : Appends mid new (if_wanted w (total_text n t)) → AppendsOne (Tells w all answers) old new
+  told_whole last = record {
+    text = told_all w answers tallies;
+    is = record { tallies = tallies; tallied = tallied; is = refl };
+    whole = subst (λ x. Appends old new (told w 1 answers tallies ++ x)) total_is (Appends-trans old mid new (told w 1 answers tallies) (if_wanted w (total_text n t)) faults last);
+  }
+
+  pub told_until : AppendsPrefix mid new (if_wanted w (total_text n t)) → AppendsSome (Tells w all answers) old new
+  told_until last = record {
+    text = told_all w answers tallies;
+    is = record { tallies = tallies; tallied = tallied; is = refl };
+    front = subst (λ x. AppendsPrefix old new (told w 1 answers tallies ++ x)) total_is (prefix_then old mid new (told w 1 answers tallies) (if_wanted w (total_text n t)) faults last);
+  }
+
+-- what was told before the total
+pub some_front : (w : Bool) (all : List (List ℕ)) (answers : List Answer) (old new : Option (List ℕ)) → TellsSome w 1 all answers old new → AppendsSome (Tells w all answers) old new
+some_front w all answers old new s = record {
+  text = told_all w answers s.tallies;
+  is = record { tallies = s.tallies; tallied = s.tallied; is = refl };
+  front = prefix_first old new (told w 1 answers s.tallies) (if_wanted w (total_text (length answers) (with_tallies no_tally s.tallies))) s.front;
+}
+
+-- where nothing was told
+pub some_none : (w : Bool) (all : List (List ℕ)) (answers : List Answer) (old : Option (List ℕ)) → AppendsSome (Tells w all answers) old old
+some_none w all answers old = record {
+  text = told_all w answers (none_of all);
+  is = record { tallies = none_of all; tallied = none_tallied all; is = refl };
+  front = prefix_none old (told_all w answers (none_of all));
+}

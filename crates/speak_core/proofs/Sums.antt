@@ -1,5 +1,5 @@
 -- What lines say, summed up batch by batch.
-use Rattle.std.proofs.Common.{◌≡◌, ◌<◌, ◌≤◌, ◌==◌, ℕ, suc, ◌+◌, ◌-◌, List, [], ◌∷◌, ◌++◌, Bool, true, None, Ok, Err, Result, Bor, cond, Vec, Global, get_or, length, map, take, refl, sym, ap, ◌∙◌, subst, append_assoc, append-nil, arith}
+use Rattle.std.proofs.Common.{◌≡◌, ◌<◌, ◌≤◌, ◌==◌, ℕ, suc, ◌+◌, ◌-◌, List, [], ◌∷◌, ◌++◌, Bool, true, None, Ok, Err, Bor, cond, Vec, Global, get_or, length, map, take, refl, sym, ap, ◌∙◌, subst, append_assoc, append-nil, arith}
 use Rattle.std.proofs.KnownBytes.{Appends-nil, Appends-trans}
 use Rattle.std.proofs.Math.Dec.{eqb-suc-zero}
 use Rattle.std.proofs.lemmas.List.{length-map, map-append, take_all}
@@ -9,19 +9,20 @@ use Rattle.std.specs.List.{count_by}
 use Rattle.std.specs.Option.{is_none}
 use Rattle.std.specs.declared.option.Option.{Option}
 use Rattle.norm_base.specs.Bytes.{AppendsPrefix}
-use Rattle.norm_base.proofs.Front.{prefix_none}
 use Rattle.normaliser.specs.Lines.{Answer, Saying}
-use Rattle.normaliser.specs.declared.faults.LineFault.{LineFault}
-use Rattle.normaliser.specs.declared.normalisers.Spoken.{Spoken}
 use Rattle.sample_lines.proofs.Batches.{length-sampled, sampled-none, sampled-then, state-none, state-then}
 use Rattle.sample_lines.specs.Lines.{sampled}
 use Rattle.sample_lines.specs.Summary.{Said, Totals, summary_text, totals_of}
-use Rattle.speak_core.specs.Answers.{AllSaid, all_read, told}
+use Rattle.speak_core.specs.Answers.{AllSaid, Tells, all_read, told}
+use Rattle.shared_cascade.specs.Tallies.{no_tally}
+use Rattle.shared_cascade.specs.declared.tallies.Tally.{Tally}
+use Rattle.speak_core.specs.Reports.{AllTallied, if_wanted, total_text, with_tallies}
+use Rattle.speak_core.specs.declared.batches.Heard.{Heard}
 use Rattle.speak_core.specs.Loaded.{SaysOnce}
 use Rattle.speak_core.specs.Outputs.{said_of, sample_lines, summary_of}
-use Rattle.speak_core.specs.Parts.{AnswersFront, Speaks, SumsUp, TellsFront, Writes, answer_of, lines_of}
-use Rattle.speak_core.proofs.Said.{faults_of_first, faults_then, said_append, said_count, said_once, told_append}
-use Rattle.speak_core.proofs.Tellings.{answers_few, batch_faults, front_more}
+use Rattle.speak_core.specs.Parts.{AnswersFront, AppendsSome, Speaks, SumsUp, TellsFront, TellsSome, Writes, answer_of, lines_of, tally_of}
+use Rattle.speak_core.proofs.Said.{faults_of_first, faults_then, said_append, said_count, said_once, tallied_append, tallied_count, tells_none, told_append, told_until, told_whole, with_append}
+use Rattle.speak_core.proofs.Tellings.{answers_few, batch_faults, faults_are, front_more, lines_are}
 
 -- no line is refused where none is counted as refused
 none_refused : (answers : List Answer) → (count_by is_none (map said_of answers) == 0) ≡ all_read answers
@@ -34,7 +35,7 @@ none_refused (Err fault ∷ answers) =
     ap (λ (n : ℕ). n == 0) (all ∙ one) ∙ eqb-suc-zero others
 
 -- one answer more was added to totals
-pub adds_more : (answers : List (Result Spoken LineFault)) (i : ℕ) (answer : Result Spoken LineFault) (within : i < length answers) (there : answer ≡ get_or answers i answer) (said : Said) (old mid new : Totals) → said ≡ said_of (answer_of answer)
+pub adds_more : (answers : List (Heard)) (i : ℕ) (answer : Heard) (within : i < length answers) (there : answer ≡ get_or answers i answer) (said : Said) (old mid new : Totals) → said ≡ said_of (answer_of answer)
     → ((before : List Said) → old ≡ totals_of before → mid ≡ totals_of (before ++ map said_of (take i (map answer_of answers)))) → ((before : List Said) → mid ≡ totals_of before → new ≡ totals_of (before ++ said ∷ []))
     → (before : List Said) → old ≡ totals_of before → new ≡ totals_of (before ++ map said_of (take (i + 1) (map answer_of answers)))
 adds_more answers i answer within there said old mid new is_said so_far step before is =
@@ -44,35 +45,44 @@ adds_more answers i answer within there said old mid new is_said so_far step bef
     step (before ++ map said_of front) (so_far before is) ∙ ap totals_of (append_assoc before (map said_of front) (said ∷ []) ∙ ap (λ l. before ++ l) (sym more))
 
 -- all of them were
-pub adds_all : (answers : List (Result Spoken LineFault)) (i : ℕ) → length answers ≤ i → (old new : Totals) → ((before : List Said) → old ≡ totals_of before → new ≡ totals_of (before ++ map said_of (take i (map answer_of answers))))
+pub adds_all : (answers : List (Heard)) (i : ℕ) → length answers ≤ i → (old new : Totals) → ((before : List Said) → old ≡ totals_of before → new ≡ totals_of (before ++ map said_of (take i (map answer_of answers))))
     → (before : List Said) → old ≡ totals_of before → new ≡ totals_of (before ++ map said_of (map answer_of answers))
 adds_all answers i end old new so_far before is =
     let n = length-map answers answer_of in
     so_far before is ∙ ap (λ l. totals_of (before ++ map said_of l)) (take_all i (map answer_of answers) (omega (arith, n, end)))
 
+-- the lines of a sample, counted
+pub sample_counted : (n count start : ℕ) → n ≡ count → n ≡ length (sample_lines count start)
+sample_counted n count start is = let k = length-sampled count start in omega (arith, is, k)
+
 module _ (P : Saying) where
   -- lines that were summed up were spoken, to an output of which nothing is known
-  spoken : (n : ℕ) (xs : List (List ℕ)) (old new : Totals) (err err' : Option (List ℕ)) (s : SumsUp P n xs old new err err') → Speaks P n xs None None err err' (all_read s.answers)
-  spoken n xs old new err err' s = record { answers = s.answers; said = s.said; words = tt; faults = s.faults; read = refl }
+  spoken : (w : Bool) (n : ℕ) (t t' : Tally) (xs : List (List ℕ)) (old new : Totals) (err err' : Option (List ℕ)) (s : SumsUp P w n t t' xs old new err err') → Speaks P w n t t' xs None None err err' (all_read s.answers)
+  spoken w n t t' xs old new err err' s = record { answers = s.answers; said = s.said; tallies = s.tallies; tallied = s.tallied; words = tt; faults = s.faults; total = s.total; read = refl }
 
-  sums_none : (n : ℕ) (old new : Totals) (err : Option (List ℕ)) → new ≡ old → SumsUp P n [] old new err err
-  sums_none n old new err same = record { answers = []; said = tt; added = λ before is. same ∙ is ∙ ap totals_of (sym (append-nil before)); faults = Appends-nil err }
+  sums_none : (w : Bool) (n : ℕ) (t : Tally) (old new : Totals) (err : Option (List ℕ)) → new ≡ old → SumsUp P w n t t [] old new err err
+  sums_none w n t old new err same = record { answers = []; said = tt; added = λ before is. same ∙ is ∙ ap totals_of (sym (append-nil before)); tallies = []; tallied = tt; faults = Appends-nil err; total = refl }
 
   -- some lines, and then those after them
-  sums_more : (n m : ℕ) (xs ys : List (List ℕ)) (old mid new : Totals) (err emid err' : Option (List ℕ)) → SumsUp P n xs old mid err emid → m ≡ n + length xs → SumsUp P m ys mid new emid err' → SumsUp P n (xs ++ ys) old new err err'
-  sums_more n m xs ys old mid new err emid err' s next t = record {
-    answers = s.answers ++ t.answers;
-    said = said_append P xs ys s.answers t.answers s.said t.said;
-    added = λ before is.
-        t.added (before ++ map said_of s.answers) (s.added before is)
-        ∙ ap totals_of (append_assoc before (map said_of s.answers) (map said_of t.answers) ∙ ap (λ l. before ++ l) (sym (map-append said_of s.answers t.answers)));
-    faults =
-        let count = said_count P xs s.answers s.said in
-        subst (Appends err err') (sym (told_append n m s.answers t.answers (omega (arith, next, count)))) (Appends-trans err emid err' (told n s.answers) (told m t.answers) s.faults t.faults);
-  }
+  sums_more : (w : Bool) (n m : ℕ) (t t' t'' : Tally) (xs ys : List (List ℕ)) (old mid new : Totals) (err emid err' : Option (List ℕ)) → SumsUp P w n t t' xs old mid err emid → m ≡ n + length xs → SumsUp P w m t' t'' ys mid new emid err' → SumsUp P w n t t'' (xs ++ ys) old new err err'
+  sums_more w n m t t' t'' xs ys old mid new err emid err' s next u =
+      let said = said_count P xs s.answers s.said in
+      let counts = tallied_count xs s.tallies s.tallied ∙ sym said in
+      let after : m ≡ n + length s.answers = omega (arith, next, said) in
+      record {
+        answers = s.answers ++ u.answers;
+        said = said_append P xs ys s.answers u.answers s.said u.said;
+        tallies = s.tallies ++ u.tallies;
+        tallied = tallied_append xs ys s.tallies u.tallies s.tallied u.tallied;
+        total = u.total ∙ ap (λ x. with_tallies x u.tallies) s.total ∙ sym (with_append t s.tallies u.tallies);
+        faults = subst (Appends err err') (sym (told_append w n m s.answers u.answers s.tallies u.tallies counts after)) (Appends-trans err emid err' (told w n s.answers s.tallies) (told w m u.answers u.tallies) s.faults u.faults);
+        added = λ before is.
+            u.added (before ++ map said_of s.answers) (s.added before is)
+            ∙ ap totals_of (append_assoc before (map said_of s.answers) (map said_of u.answers) ∙ ap (λ l. before ++ l) (sym (map-append said_of s.answers u.answers)));
+      }
 
   -- no more answers than lines of a batch
-  pub few_answers : (batch : List (Vec ℕ Global)) (lines : List (Bor (List ℕ))) (answers : List (Result Spoken LineFault)) (whole : Bool) → lines_of lines ≡ map (λ line. line.items) batch → AnswersFront P (lines_of lines) (map answer_of answers) whole → length answers ≤ length batch
+  pub few_answers : (batch : List (Vec ℕ Global)) (lines : List (Bor (List ℕ))) (answers : List (Heard)) (whole : Bool) → lines_of lines ≡ map (λ line. line.items) batch → AnswersFront P (lines_of lines) (map answer_of answers) (map tally_of answers) whole → length answers ≤ length batch
   few_answers batch lines answers whole same a =
       let few = answers_few P lines answers whole a in
       let both = ap length same in
@@ -88,38 +98,43 @@ module _ (P : Saying) where
       let k = length-sampled n x in
       omega (arith, both, m, k)
 
-  module _ (first : ℕ) (all lines : List (List ℕ)) (answers : List Answer) (words faults : List ℕ) (answered whole : Bool) (same : lines ≡ all) (a : AnswersFront P lines answers answered) (t : TellsFront first answers words faults whole) where
+  module _ (w : Bool) (first : ℕ) (all lines : List (List ℕ)) (heard : List Heard) (words faults : List ℕ) (answered whole : Bool) (same : lines ≡ all) (a : AnswersFront P lines (map answer_of heard) (map tally_of heard) answered) (t : TellsFront w first heard words faults whole) where
+    of_all : AnswersFront P all (map answer_of heard) (map tally_of heard) answered
+    of_all = subst (λ l. AnswersFront P l (map answer_of heard) (map tally_of heard) answered) same a
+
     -- the faults of a batch that were told are a front of all
-    pub batch_front : SaysOnce P → (err err' : Option (List ℕ)) → AppendsPrefix err err' faults → (others : List Answer) → AllSaid P all others → AppendsPrefix err err' (told first others)
-    batch_front once err err' front others said = batch_faults P first all answers words faults answered whole (subst (λ l. AnswersFront P l answers answered) same a) t once err err' front others said
+    pub batch_front : SaysOnce P → (err err' : Option (List ℕ)) → AppendsPrefix err err' faults → (others : List Answer) → AllSaid P all others → TellsSome w first all others err err'
+    batch_front once err err' front others said = batch_faults P w first all heard words faults answered whole of_all t once err err' front others said
 
     -- a batch was summed up
-    pub batch_sums : answered ≡ true → whole ≡ true → (old new : Totals) (err err' : Option (List ℕ)) → Appends err err' faults → ((before : List Said) → old ≡ totals_of before → new ≡ totals_of (before ++ map said_of answers))
-        → SumsUp P first all old new err err'
-    batch_sums is_answered is_whole old new err err' told_all added =
-        let answers_are : answers ≡ t.done = t.parts ∙ ap (λ l. t.done ++ l) (t.whole is_whole) ∙ append-nil t.done in
-        let lines_are : all ≡ a.done = sym same ∙ a.parts ∙ ap (λ l. a.done ++ l) (a.whole is_answered) ∙ append-nil a.done in
+    pub batch_sums : answered ≡ true → whole ≡ true → (old new : Totals) (err err' : Option (List ℕ)) (total total' : Tally) → Appends err err' faults → ((before : List Said) → old ≡ totals_of before → new ≡ totals_of (before ++ map said_of (map answer_of heard)))
+        → total' ≡ with_tallies total (map tally_of heard) → SumsUp P w first total total' all old new err err'
+    batch_sums is_answered is_whole old new err err' total total' told_all added counted =
+        let lines_same = lines_are P w first all heard words faults answered whole of_all t is_answered in
         record {
-          answers = answers;
-          said = subst (λ l. AllSaid P l answers) (sym lines_are) a.said;
+          answers = map answer_of heard;
+          said = subst (λ l. AllSaid P l (map answer_of heard)) (sym lines_same) of_all.said;
           added = added;
-          faults = subst (Appends err err') (t.all_faults ∙ ap (told first) (sym answers_are)) told_all;
+          tallies = map tally_of heard;
+          tallied = subst (λ l. AllTallied l (map tally_of heard)) (sym lines_same) of_all.tallied;
+          faults = subst (Appends err err') (faults_are P w first all heard words faults answered whole of_all t is_whole) told_all;
+          total = counted;
         }
 
   -- the first lines of a sample were summed up, and the next one is made of this state
-  pub record SummedTo (start done state : ℕ) (now : Totals) (err err' : Option (List ℕ)) (e e' : ℕ) : Type 0 where
-    pub sums : SumsUp P 1 (sampled done start).value (totals_of []) now err err'
+  pub record SummedTo (w : Bool) (t t' : Tally) (start done state : ℕ) (now : Totals) (err err' : Option (List ℕ)) (e e' : ℕ) : Type 0 where
+    pub sums : SumsUp P w 1 t t' (sampled done start).value (totals_of []) now err err'
     pub goes_on : state ≡ (sampled done start).state
     pub kept : e' ≡ e
 
-  pub summed_none : (start : ℕ) (now : Totals) (err : Option (List ℕ)) (e : ℕ) → now ≡ totals_of [] → SummedTo start 0 start now err err e e
-  summed_none start now err e is = record {
-    sums = subst (λ l. SumsUp P 1 l (totals_of []) now err err) (sym (sampled-none start)) (sums_none 1 (totals_of []) now err is);
+  pub summed_none : (w : Bool) (t : Tally) (start : ℕ) (now : Totals) (err : Option (List ℕ)) (e : ℕ) → now ≡ totals_of [] → SummedTo w t t start 0 start now err err e e
+  summed_none w t start now err e is = record {
+    sums = subst (λ l. SumsUp P w 1 t t l (totals_of []) now err err) (sym (sampled-none start)) (sums_none w 1 t (totals_of []) now err is);
     goes_on = sym (state-none start);
     kept = refl;
   }
 
-  module _ (start done state : ℕ) (now : Totals) (err emid : Option (List ℕ)) (e e' : ℕ) (sofar : SummedTo start done state now err emid e e') where
+  module _ (w : Bool) (t t' : Tally) (start done state : ℕ) (now : Totals) (err emid : Option (List ℕ)) (e e' : ℕ) (sofar : SummedTo w t t' start done state now err emid e e') where
     abbrev first : List (List ℕ)
     first = (sampled done start).value
 
@@ -129,7 +144,7 @@ module _ (P : Saying) where
     -- as many lines are counted
     pub summed_count : now.lines ≡ done
     summed_count =
-        let counted = ap (λ (t : Totals). t.lines) (sofar.sums.added [] refl) in
+        let counted = ap (λ (u : Totals). u.lines) (sofar.sums.added [] refl) in
         let n = length-map sofar.sums.answers said_of in
         let m = said_count P first sofar.sums.answers sofar.sums.said in
         let k = length-sampled done start in
@@ -140,51 +155,66 @@ module _ (P : Saying) where
     lines_more n = sampled-then done n start ∙ ap (λ s. first ++ (sampled n s).value) (sym sofar.goes_on)
 
     -- one batch more
-    pub summed_more : (size n next : ℕ) (batch : List (List ℕ)) (new : Totals) (err' : Option (List ℕ)) (e'' : ℕ) → batch ≡ (sampled size state).value → next ≡ (sampled size state).state → n ≡ done + 1
-        → SumsUp P n batch now new emid err' → e'' ≡ e' → SummedTo start (done + size) next new err err' e e''
-    summed_more size n next batch new err' e'' lines goes_on numbered summed kept = record {
-      sums = subst (λ l. SumsUp P 1 l (totals_of []) new err err') (ap (λ l. first ++ l) lines ∙ sym (lines_more size)) (sums_more 1 n first batch (totals_of []) now new err emid err' sofar.sums (count_first n numbered) summed);
+    pub summed_more : (t'' : Tally) (size n next : ℕ) (batch : List (List ℕ)) (new : Totals) (err' : Option (List ℕ)) (e'' : ℕ) → batch ≡ (sampled size state).value → next ≡ (sampled size state).state → n ≡ done + 1
+        → SumsUp P w n t' t'' batch now new emid err' → e'' ≡ e' → SummedTo w t t'' start (done + size) next new err err' e e''
+    summed_more t'' size n next batch new err' e'' lines goes_on numbered summed kept = record {
+      sums = subst (λ l. SumsUp P w 1 t t'' l (totals_of []) new err err') (ap (λ l. first ++ l) lines ∙ sym (lines_more size)) (sums_more w 1 n t t' t'' first batch (totals_of []) now new err emid err' sofar.sums (count_first n numbered) summed);
       goes_on = goes_on ∙ ap (λ s. (sampled size s).state) sofar.goes_on ∙ sym (state-then done size start);
       kept = kept ∙ sofar.kept;
     }
 
     -- where a batch is cut off, a front of all faults is written
-    faults_more : SaysOnce P → (n : ℕ) → n ≡ done + 1 → (rest : ℕ) (err' : Option (List ℕ)) → ((a : List Answer) → AllSaid P (sampled rest state).value a → AppendsPrefix emid err' (told n a))
-        → (all : List Answer) → AllSaid P (sampled (done + rest) start).value all → AppendsPrefix err err' (told 1 all)
+    faults_more : SaysOnce P → (n : ℕ) → n ≡ done + 1 → (rest : ℕ) (err' : Option (List ℕ)) → ((a : List Answer) → AllSaid P (sampled rest state).value a → TellsSome w n (sampled rest state).value a emid err')
+        → (all : List Answer) → AllSaid P (sampled (done + rest) start).value all → TellsSome w 1 (sampled (done + rest) start).value all err err'
     faults_more once n numbered rest err' front all said =
-        faults_then P 1 n first None None None err emid err' (all_read sofar.sums.answers) (spoken 1 first (totals_of []) now err emid sofar.sums) (count_first n numbered) once (sampled rest state).value front all (subst (λ l. AllSaid P l all) (lines_more rest) said)
+        subst (λ l. TellsSome w 1 l all err err') (sym (lines_more rest))
+        (faults_then P w 1 n t t' first None None None err emid err' (all_read sofar.sums.answers) (spoken w 1 t t' first (totals_of []) now err emid sofar.sums) (count_first n numbered) once (sampled rest state).value front all (subst (λ l. AllSaid P l all) (lines_more rest) said))
 
-    pub summed_cut : SaysOnce P → (count size n : ℕ) (batch : List (List ℕ)) (err' : Option (List ℕ)) → done + size ≤ count → batch ≡ (sampled size state).value → n ≡ done + 1 → ((a : List Answer) → AllSaid P batch a → AppendsPrefix emid err' (told n a))
-        → (all : List Answer) → AllSaid P (sample_lines count start) all → AppendsPrefix err err' (told 1 all)
+    pub summed_cut : SaysOnce P → (count size n : ℕ) (batch : List (List ℕ)) (err' : Option (List ℕ)) → done + size ≤ count → batch ≡ (sampled size state).value → n ≡ done + 1 → ((a : List Answer) → AllSaid P batch a → TellsSome w n batch a emid err')
+        → (all : List Answer) → AllSaid P (sample_lines count start) all → TellsSome w 1 (sample_lines count start) all err err'
     summed_cut once count size n batch err' fits lines numbered front all said =
         let left = count - (done + size) in
         let whole : count ≡ done + (size + left) = omega (arith, fits) in
-        faults_more once n numbered (size + left) err'
-        (λ a p. faults_of_first P n batch (sampled left (sampled size state).state).value emid err' front a (subst (λ l. AllSaid P l a) (sampled-then size left state ∙ ap (λ l. l ++ (sampled left (sampled size state).state).value) (sym lines)) p))
-        all (subst (λ k. AllSaid P (sampled k start).value all) whole said)
+        let after = (sampled left (sampled size state).state).value in
+        let split : (sampled (size + left) state).value ≡ batch ++ after = sampled-then size left state ∙ ap (λ l. l ++ after) (sym lines) in
+        subst (λ k. TellsSome w 1 (sampled k start).value all err err') (sym whole)
+        (faults_more once n numbered (size + left) err'
+        (λ a p. subst (λ l. TellsSome w n l a emid err') (sym split) (faults_of_first P w n batch after emid err' front a (subst (λ l. AllSaid P l a) split p)))
+        all (subst (λ k. AllSaid P (sampled k start).value all) whole said))
 
     -- what was written so far is a front of all faults
-    pub summed_front : SaysOnce P → (count : ℕ) → done ≤ count → (all : List Answer) → AllSaid P (sample_lines count start) all → AppendsPrefix err emid (told 1 all)
+    pub summed_front : SaysOnce P → (count : ℕ) → done ≤ count → (all : List Answer) → AllSaid P (sample_lines count start) all → TellsSome w 1 (sample_lines count start) all err emid
     summed_front once count fits all said =
         let whole : count ≡ done + (count - done) = omega (arith, fits) in
-        faults_more once (done + 1) refl (count - done) emid (λ a p. prefix_none emid (told (done + 1) a)) all (subst (λ k. AllSaid P (sampled k start).value all) whole said)
+        subst (λ k. TellsSome w 1 (sampled k start).value all err emid) (sym whole)
+        (faults_more once (done + 1) refl (count - done) emid (λ a p. tells_none P w (done + 1) (sampled (count - done) state).value a emid) all (subst (λ k. AllSaid P (sampled k start).value all) whole said))
 
     -- at the end all lines are summed up
-    pub summed_all : (count : ℕ) → done ≡ count → SumsUp P 1 (sample_lines count start) (totals_of []) now err emid
-    summed_all count end = subst (λ k. SumsUp P 1 (sampled k start).value (totals_of []) now err emid) end sofar.sums
+    pub summed_all : (count : ℕ) → done ≡ count → SumsUp P w 1 t t' (sample_lines count start) (totals_of []) now err emid
+    summed_all count end = subst (λ k. SumsUp P w 1 t t' (sampled k start).value (totals_of []) now err emid) end sofar.sums
 
-  module _ (all : List (List ℕ)) (now : Totals) (err err' : Option (List ℕ)) (s : SumsUp P 1 all (totals_of []) now err err') (text : List ℕ) (is_text : text ≡ summary_text now) where
+  -- where the total is cut off, a front of all is told
+  pub summed_until : (w : Bool) (t : Tally) (all : List (List ℕ)) (old now : Totals) (err emid err' : Option (List ℕ)) → SumsUp P w 1 no_tally t all old now err emid → SaysOnce P → (n : ℕ) → n ≡ length all → AppendsPrefix emid err' (if_wanted w (total_text n t))
+      → (answers : List Answer) → AllSaid P all answers → AppendsSome (Tells w all answers) err err'
+  summed_until w t all old now err emid err' s once n counted last answers said =
+      subst (λ a. AppendsSome (Tells w all a) err err') (said_once P once all s.answers answers s.said said) (told_until P w t all s.answers s.said s.tallies s.tallied s.total err emid err' s.faults n counted last)
+
+  -- lines that were summed up from no lines on, by what is known of the report
+  pub sums_anew : (w v : Bool) (u t : Tally) (all : List (List ℕ)) (old new : Totals) (err err' : Option (List ℕ)) → v ≡ w → u ≡ no_tally → SumsUp P v 1 u t all old new err err' → SumsUp P w 1 no_tally t all old new err err'
+  sums_anew w v u t all old new err err' wanted none h = subst (λ b. SumsUp P b 1 no_tally t all old new err err') wanted (subst (λ x. SumsUp P v 1 x t all old new err err') none h)
+
+  module _ (w : Bool) (t : Tally) (all : List (List ℕ)) (now : Totals) (err emid err' : Option (List ℕ)) (s : SumsUp P w 1 no_tally t all (totals_of []) now err emid) (text : List ℕ) (is_text : text ≡ summary_text now) where
     totals : now ≡ totals_of (map said_of s.answers)
     totals = s.added [] refl
 
     -- the summary's text is that of what the lines say
-    pub summed_writes : (out out' : Option (List ℕ)) (r : Bool) → Appends out out' text → r ≡ (now.refused == 0) → Writes P all summary_of out out' err err' r
-    summed_writes out out' r wrote read = record {
+    pub summed_writes : (out out' : Option (List ℕ)) (r : Bool) → Appends out out' text → r ≡ (now.refused == 0) → (n : ℕ) → n ≡ length all → Appends emid err' (if_wanted w (total_text n t)) → Writes P w all summary_of out out' err err' r
+    summed_writes out out' r wrote read n counted last = record {
       answers = s.answers;
       said = s.said;
       output = subst (Appends out out') (is_text ∙ ap summary_text totals) wrote;
-      faults = s.faults;
-      read = read ∙ ap (λ (t : Totals). t.refused == 0) totals ∙ none_refused s.answers;
+      faults = told_whole P w t all s.answers s.said s.tallies s.tallied s.total err emid err' s.faults n counted last;
+      read = read ∙ ap (λ (u : Totals). u.refused == 0) totals ∙ none_refused s.answers;
     }
 
     pub summed_output : SaysOnce P → (out out' : Option (List ℕ)) → AppendsPrefix out out' text → (answers : List Answer) → AllSaid P all answers → AppendsPrefix out out' (summary_of answers)

@@ -1,8 +1,11 @@
 -- What the lines of an input say, and what is written and told of them.
-use Rattle.std.specs.Prelude.{ℕ, ◌+◌, List, [], ◌∷◌, ◌++◌, Ok, Err, Bool, true, false, codes}
+use Rattle.std.specs.Prelude.{◌≡◌, ℕ, ◌+◌, List, [], ◌∷◌, ◌++◌, Ok, Err, Bool, true, false, codes, length}
 use Rattle.std.specs.Fmt.{decimal}
 use Rattle.std.specs.List.{list_all}
 use Rattle.normaliser.specs.Lines.{Answer, Saying}
+use Rattle.shared_cascade.specs.Tallies.{no_tally}
+use Rattle.shared_cascade.specs.declared.tallies.Tally.{Tally}
+use Rattle.speak_core.specs.Reports.{AllTallied, if_wanted, report_text, total_text, with_tallies}
 use Rattle.normaliser.specs.declared.faults.LineFault.{LineFault}
 use Rattle.normaliser.specs.declared.faults.LineFault.TheVariants.{NulByte, LongLine, NoPath, NotTokens, TooManyFields, NoWords, Memory}
 
@@ -38,10 +41,25 @@ abbrev pub fault_text : ℕ → Answer → List ℕ
 fault_text number (Ok words) = []
 fault_text number (Err fault) = codes "line " ++ (decimal number ++ (codes ": " ++ cause_of fault))
 
--- the faults of all lines, which are numbered on from this number
-abbrev pub told : ℕ → List Answer → List ℕ
-told number [] = []
-told number (answer ∷ answers) = fault_text number answer ++ told (number + 1) answers
+-- what is told of one line: its fault, and with a report what came of its looks
+abbrev pub line_text : Bool → ℕ → Answer → Tally → List ℕ
+line_text report number answer t = fault_text number answer ++ if_wanted report (report_text number t)
+
+-- of all lines, which are numbered on from this number; each has its tally
+abbrev pub told : Bool → ℕ → List Answer → List Tally → List ℕ
+told report number [] ts = []
+told report number (answer ∷ answers) [] = []
+told report number (answer ∷ answers) (t ∷ ts) = line_text report number answer t ++ told report (number + 1) answers ts
+
+-- of all lines, and with a report their total
+abbrev pub told_all : Bool → List Answer → List Tally → List ℕ
+told_all report answers ts = told report 1 answers ts ++ if_wanted report (total_text (length answers) (with_tallies no_tally ts))
+
+-- What may be told of lines that say this.
+pub record Tells (report : Bool) (lines : List (List ℕ)) (answers : List Answer) (text : List ℕ) : Type 0 where
+  pub tallies : List Tally
+  pub tallied : AllTallied lines tallies
+  pub is : text ≡ told_all report answers tallies
 
 -- the line isn't refused
 abbrev pub is_read : Answer → Bool

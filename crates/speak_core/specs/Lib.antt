@@ -2,6 +2,7 @@ pub mod Requests
 pub mod Plans
 pub mod Texts
 pub mod Accepted
+pub mod Reports
 pub mod Answers
 pub mod Outputs
 pub mod Devices

@@ -6,6 +6,7 @@ use Rattle.core_expressions.specs.declared.expressions.Expr.{Expr}
 use Rattle.norm_base.specs.Files.{Files, file_of}
 use Rattle.normaliser.specs.Lines.{Answer, Saying}
 use Rattle.normaliser.specs.Loads.{CanBeBuilt, IsFirstEmpty, NoneRewritesEmpty}
+use Rattle.normaliser.specs.Searches.{IsCallerOf}
 use Rattle.speak_setup.specs.Setups.{SetupNames, SetupText, most_rules, names_of}
 use Rattle.speak_setup.specs.declared.setup.Need.{Need}
 use Rattle.speak_setup.specs.declared.setup.Setup.{Setup}
@@ -19,9 +20,9 @@ use Rattle.speak_core.specs.Outputs.{checked_text}
 use Rattle.speak_core.specs.Requests.{Request}
 use Rattle.speak_core.specs.Parts.{says_of}
 use Rattle.speak_core.specs.Plans.{Plan, rules_of, saying_of}
-use Rattle.speak_core.specs.Texts.{absent_text, empty_text, setup_text}
+use Rattle.speak_core.specs.Texts.{empty_text}
 use Rattle.speak_core.specs.declared.loading.Rules.{Rules}
-use Rattle.speak_core.specs.declared.speakers.Speaker.{Speaker}
+use Rattle.speak_core.specs.declared.speakers.Loaded.{Loaded}
 use Rattle.speak_core.specs.declared.stop.Stop.{Stop}
 use Rattle.speak_core.specs.declared.stop.Stop.TheVariants as stop
 use Rattle.speak_core.specs.declared.requests.Mode.{Mode}
@@ -78,9 +79,13 @@ abbrev pub FindsPlanned : {B : Type 0} → (Plan → B → Type 0) → (OrText P
 FindsPlanned Fits P (Ok b) = Planned Fits P b
 FindsPlanned Fits P (Err s) = StopsAs P s
 
--- by this speaker the lines say the same as by a plan
-abbrev pub SpeaksBy : Plan → Speaker → Type 0
-SpeaksBy plan s = SaySame (says_of s) (saying_of plan)
+-- its caller may be given a line
+abbrev pub IsLoaded : Loaded → Type 0
+IsLoaded loaded = IsCallerOf loaded.speaker.normaliser loaded.caller
+
+-- by its speaker the lines say the same as by a plan
+abbrev pub SpeaksBy : Plan → Loaded → Type 0
+SpeaksBy plan loaded = SaySame (says_of loaded.speaker) (saying_of plan)
 
 -- this text tells the sizes of a plan's rules
 abbrev pub ChecksBy : Plan → Vec ℕ Global → Type 0
@@ -93,8 +98,8 @@ TellsFirstEmpty names es stop.Memory = Unit {0}
 TellsFirstEmpty names es _ = ⊥
 
 -- a speaker of a plan whose rules can be built, or the refusal of the first that can't
-abbrev pub Builds : SetupNames → Plan → Result Speaker Stop → Type 0
-Builds names plan (Ok s) = SaySame (says_of s) (saying_of plan) × NoneRewritesEmpty (rules_of plan)
+abbrev pub Builds : SetupNames → Plan → Result Loaded Stop → Type 0
+Builds names plan (Ok loaded) = SpeaksBy plan loaded × NoneRewritesEmpty (rules_of plan)
 Builds names plan (Err s) = TellsFirstEmpty (all_rules names) (rules_of plan) s
 
 -- the sizes of the rules of a plan that can be built, or the refusal of the first that can't

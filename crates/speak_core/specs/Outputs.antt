@@ -29,6 +29,13 @@ reads_input (classify setup) = true
 reads_input (check setup) = false
 reads_input (sample count start) = false
 
+-- whether the job reports, where a report is wanted: where it speaks no lines it doesn't
+abbrev pub reports_for : Job → Bool → Bool
+reports_for (speak setup) report = report
+reports_for (classify setup) report = report
+reports_for (check setup) report = false
+reports_for (sample count start) report = report
+
 -- a rule with its size
 abbrev pub rule_line : List ℕ → List ℕ → Expression → List ℕ
 rule_line kind name e = kind ++ (codes " " ++ (name ++ (codes " size " ++ (decimal (size e) ++ 10 ∷ []))))

@@ -5,7 +5,8 @@ use Rattle.std.specs.declared.option.Option.{Option}
 use Rattle.std.specs.declared.alloc.Global.{Global}
 use Rattle.norm_base.specs.Files.{Files}
 use Rattle.sample_lines.specs.Toy.{toy_files}
-use Rattle.speak_words.specs.Asked.{Job, check, classify, job_for, sample, speak}
+use Rattle.speak_words.specs.Asked.{Job, check, classify, job_for, sample, settings_for, speak}
+use Rattle.speak_words.specs.declared.asked.Settings.{Settings}
 use Rattle.speak_core.specs.declared.requests.Request.{Request as NamedRequest}
 use Rattle.speak_core.specs.declared.requests.Mode.{Mode}
 use Rattle.speak_core.specs.declared.requests.Mode.TheVariants.{Classify, Speak}
@@ -13,6 +14,10 @@ use Rattle.speak_core.specs.declared.requests.Mode.TheVariants.{Classify, Speak}
 -- the job of these words, where they are the command's
 abbrev pub job_in : List (String Global) → Option Job
 job_in words = job_for (map string_bytes words)
+
+-- how these words want it done
+abbrev pub settings_in : List (String Global) → Settings
+settings_in words = settings_for (map string_bytes words)
 
 -- the name of a setup, and what is to be said of each line
 pub record Request : Type 0 where

@@ -9,27 +9,28 @@ use Rattle.speak_core.specs.Accepted.{Refused}
 use Rattle.speak_core.specs.Requests.{job_in}
 use Rattle.speak_core.specs.Devices.{Observed, OfInput, SinkSeen, SomeRose}
 use Rattle.speak_core.specs.Inputs.{GaveMore}
-use Rattle.speak_core.specs.Owed.{Owed}
+use Rattle.speak_core.specs.Owed.{Owed, Spoke, Told}
+use Rattle.speak_core.specs.Parts.{AppendsSome}
 use Rattle.speak_core.specs.Stops.{text_of}
 use Rattle.speak_core.specs.declared.stop.Stop.{Stop}
 use Rattle.speak_core.specs.declared.stop.Stop.TheVariants.{Words, Outside, TooLong, Memory}
 
--- a prefix of the faults of the lines, and then a text
-pub record TellsThen (old new : Option (List ℕ)) (faults text : List ℕ) : Type 0 where
+-- a prefix of what may be told of the lines, and then a text
+pub record TellsThen (old new : Option (List ℕ)) (spoke : Spoke) (text : List ℕ) : Type 0 where
   pub between : Option (List ℕ)
-  pub lines : AppendsPrefix old between faults
+  pub lines : AppendsSome (Told spoke) old between
   pub last : Appends between new text
 
--- a prefix of the faults of the lines, and then a prefix of a text
-pub record TellsThenPrefix (old new : Option (List ℕ)) (faults text : List ℕ) : Type 0 where
+-- a prefix of what may be told of the lines, and then a prefix of a text
+pub record TellsThenPrefix (old new : Option (List ℕ)) (spoke : Spoke) (text : List ℕ) : Type 0 where
   pub between : Option (List ℕ)
-  pub lines : AppendsPrefix old between faults
+  pub lines : AppendsSome (Told spoke) old between
   pub last : AppendsPrefix between new text
 
--- a prefix of the faults of the lines, and then a text; a prefix of the text alone only where the count rose
-pub record TellsLast (before after : SinkSeen) (faults text : List ℕ) : Type 0 where
-  pub whole : Rose before.faults after.faults ⊎ TellsThen before.held after.held faults text
-  pub front : TellsThenPrefix before.held after.held faults text
+-- a prefix of what may be told of the lines, and then a text; a prefix of the text alone only where the count rose
+pub record TellsLast (before after : SinkSeen) (spoke : Spoke) (text : List ℕ) : Type 0 where
+  pub whole : Rose before.faults after.faults ⊎ TellsThen before.held after.held spoke text
+  pub front : TellsThenPrefix before.held after.held spoke text
 
 -- what is told of a stop, the whole text or a prefix of it where the count rose, unless the status is that of want of memory
 pub record TellsStop (status : ℕ) (before after : SinkSeen) (stop : Stop) : Type 0 where
@@ -50,15 +51,15 @@ pub record TellsTwice (old new : Option (List ℕ)) (text : List ℕ) : Type 0 w
   pub first : AppendsPrefix old between text
   pub memory : AppendsPrefix between new (text_of Memory)
 
--- For want of memory: a prefix of the faults of the lines, a prefix of what the run may tell last, and then a prefix of the
+-- For want of memory: a prefix of what may be told of the lines, a prefix of what the run may tell last, and then a prefix of the
 -- text that memory is wanting.
-pub record TellsShortOf (words : List (String Global)) (d : Observed) (files : Files) (input faults : List ℕ) : Type 0 where
+pub record TellsShortOf (words : List (String Global)) (d : Observed) (files : Files) (input : List ℕ) (spoke : Spoke) : Type 0 where
   pub between : Option (List ℕ)
   pub text : List ℕ
   pub cause : MayTell words d files input text
-  pub lines : AppendsPrefix d.before.err.held between faults
+  pub lines : AppendsSome (Told spoke) d.before.err.held between
   pub last : TellsTwice between d.after.err.held text
 
 -- so it is whatever is owed of the files and the input, where both were told
 abbrev pub TellsShort : List (String Global) → Observed → Type 0
-TellsShort words d = OfInput d.before.shelf.files d.before.source.left (λ files input. (output faults : List ℕ) → Owed words files input output faults → TellsShortOf words d files input faults)
+TellsShort words d = OfInput d.before.shelf.files d.before.source.left (λ files input. (output : List ℕ) (spoke : Spoke) → Owed words files input output spoke → TellsShortOf words d files input spoke)

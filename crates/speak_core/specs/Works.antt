@@ -5,8 +5,8 @@ use Rattle.normaliser.specs.Lines.{Answer, Saying}
 use Rattle.speak_words.specs.Asked.{Job}
 use Rattle.text_lines.specs.Lines.{lines}
 use Rattle.speak_core.specs.Answers.{AllSaid, written}
-use Rattle.speak_core.specs.Loaded.{ChecksBy, SpeaksBy}
-use Rattle.speak_core.specs.Outputs.{lines_for, out_text, sample_lines, summary_of}
+use Rattle.speak_core.specs.Loaded.{ChecksBy, IsLoaded, SpeaksBy}
+use Rattle.speak_core.specs.Outputs.{lines_for, out_text, reports_for, sample_lines, summary_of}
 use Rattle.speak_core.specs.Parts.{says_of}
 use Rattle.speak_core.specs.Plans.{Plan, saying_of}
 use Rattle.speak_core.specs.declared.stop.Stop.{Stop}
@@ -19,47 +19,61 @@ abbrev pub SaysNothing : Saying
 SaysNothing line answer = ⊥
 
 abbrev pub work_says : Work → Saying
-work_says (Input speaker) = says_of speaker
+work_says (Input loaded) = says_of loaded.speaker
 work_says (Checked text) = SaysNothing
-work_says (Sampled sample) = says_of sample.speaker
+work_says (Sampled sample) = says_of sample.loaded.speaker
 
 abbrev pub work_lines : Work → List ℕ → List (List ℕ)
-work_lines (Input speaker) input = lines input
+work_lines (Input loaded) input = lines input
 work_lines (Checked text) input = []
 work_lines (Sampled sample) input = sample_lines sample.count sample.start
 
 abbrev pub work_text : Work → List Answer → List ℕ
-work_text (Input speaker) answers = written answers
+work_text (Input loaded) answers = written answers
 work_text (Checked text) answers = text.items
 work_text (Sampled sample) answers = summary_of answers
 
+-- a speaker's caller may be given lines
+abbrev pub CanBeDone : Work → Type 0
+CanBeDone (Input loaded) = IsLoaded loaded
+CanBeDone (Checked text) = Unit {0}
+CanBeDone (Sampled sample) = IsLoaded sample.loaded
+
 -- whether the work reads the input
 abbrev pub work_reads : Work → Bool
-work_reads (Input speaker) = true
+work_reads (Input loaded) = true
 work_reads (Checked text) = false
 work_reads (Sampled sample) = false
 
+-- whether the work reports, where a report is wanted
+abbrev pub work_reports : Work → Bool → Bool
+work_reports (Input loaded) report = report
+work_reports (Checked text) report = false
+work_reports (Sampled sample) report = report
+
 -- what a plan comes to: the lines of the input, the sizes of its rules, or the lines of a sample
 abbrev pub InputBy : Plan → Work → Type 0
-InputBy plan (Input speaker) = SpeaksBy plan speaker
+InputBy plan (Input loaded) = SpeaksBy plan loaded
 InputBy plan (Checked text) = ⊥
 InputBy plan (Sampled sample) = ⊥
 
 abbrev pub CheckedBy : Plan → Work → Type 0
-CheckedBy plan (Input speaker) = ⊥
+CheckedBy plan (Input loaded) = ⊥
 CheckedBy plan (Checked text) = ChecksBy plan text
 CheckedBy plan (Sampled sample) = ⊥
 
 abbrev pub SampledBy : ℕ → ℕ → Plan → Work → Type 0
-SampledBy count start plan (Input speaker) = ⊥
+SampledBy count start plan (Input loaded) = ⊥
 SampledBy count start plan (Checked text) = ⊥
-SampledBy count start plan (Sampled sample) = SpeaksBy plan sample.speaker × (sample.count ≡ count) × (sample.start ≡ start)
+SampledBy count start plan (Sampled sample) = SpeaksBy plan sample.loaded × (sample.count ≡ count) × (sample.start ≡ start)
 
 -- By this work the lines of a job say what they say by its plan, and what it writes is written.
 pub record Does (job : Job) (plan : Plan) (work : Work) : Type 0 where
   pub by_plan : (input : List ℕ) (answers : List Answer) → AllSaid (work_says work) (work_lines work input) answers → AllSaid (saying_of plan) (lines_for job input) answers
   pub by_work : (input : List ℕ) (answers : List Answer) → AllSaid (saying_of plan) (lines_for job input) answers → AllSaid (work_says work) (work_lines work input) answers
   pub text : (answers : List Answer) → work_text work answers ≡ out_text job plan answers
+  pub lines : (input : List ℕ) → work_lines work input ≡ lines_for job input
+  pub reports : (report : Bool) → work_reports work report ≡ reports_for job report
 
 -- The counts of the source and the two sinks: all stay where the work ends well or the input is too long, and one rose where it stops at an
 -- outside fault.

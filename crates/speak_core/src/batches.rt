@@ -1,11 +1,13 @@
 // A batch of lines: cut off a text, answered, and told.
 
 ghost use Rattle.std.specs.Prelude.{◌≡◌, ◌<◌, ◌≤◌, ◌+◌, ◌^◌, ◌++◌, IfOk, OnErr, OnOk, length, map, string_bytes};
-ghost use Rattle.speak_core.specs.Answers.{fault_text, words_text};
-ghost use Rattle.speak_core.specs.Parts.{AnswersFront, Cuts, TellsFront, answer_of, lines_of, says_of};
+ghost use Rattle.normaliser.specs.Searches.{IsCallerOf};
+ghost use Rattle.speak_core.specs.Answers.{all_read, fault_text, line_text, words_text};
+ghost use Rattle.speak_core.specs.Parts.{AnswersFront, Cuts, TellsFront, answer_in, answer_of, lines_of, says_of, tally_of};
 
+use crate::reports::report_line;
 use crate::speakers::Speaker;
-use normaliser::{LineFault, Spoken};
+use normaliser::{Caller, LineFault, Spoken, Tally};
 use std::alloc::{AllocError, Global};
 use text_lines::first_line;
 
@@ -34,27 +36,41 @@ pub(crate) fn cut_batch<'a>(alloc: Global, text: &'a [u8]) -> Result<Batch<'a>, 
     Ok(Batch { lines, rest })
 }
 
-/// What lines say, each with its words or its first fault.
+/// What a line says, its words or its first fault, and what came of its looks.
+#[derive(Drop)]
+pub(crate) struct Heard {
+    pub(crate) answer: Result<Spoken, LineFault>,
+    pub(crate) tally: Tally,
+}
+
+/// What lines say.
 #[derive(Drop)]
 pub(crate) struct Answers {
-    pub(crate) all: Vec<Result<Spoken, LineFault>>,
+    pub(crate) all: Vec<Heard>,
     /// They didn't end for want of memory.
     pub(crate) is_whole: bool,
 }
 
 /// Answers lines in order, up to the first for which memory is wanting.
-pub(crate) fn answer_lines(alloc: Global, speaker: &Speaker, lines: &[&[u8]]) -> Answers
-    ensures { AnswersFront (says_of speaker.now) (lines_of lines.now) (map answer_of result.all.items) result.is_whole }
+pub(crate) fn answer_lines(
+    alloc: Global,
+    speaker: &Speaker,
+    caller: &mut Caller,
+    lines: &[&[u8]],
+) -> Answers
+    requires ready { IsCallerOf speaker.now.normaliser caller.old }
+    ensures ready { IsCallerOf speaker.now.normaliser caller.new }
+    ensures answers { AnswersFront (says_of speaker.now) (lines_of lines.now) (map answer_of result.all.items) (map tally_of result.all.items) result.is_whole }
 {
     let mut answers = Answers {
         all: Vec::new(alloc),
         is_whole: false,
     };
     for line in lines {
-        let Ok(answer) = speaker.answer(alloc, line) else {
+        let Ok(heard) = speaker.answer(alloc, caller, line) else {
             return answers;
         };
-        let Ok(()) = answers.all.push(answer) else {
+        let Ok(()) = answers.all.push(heard) else {
             return answers;
         };
     }
@@ -62,20 +78,35 @@ pub(crate) fn answer_lines(alloc: Global, speaker: &Speaker, lines: &[&[u8]]) ->
     answers
 }
 
+/// Whether each line was read.
+pub(crate) fn are_read(heard: &[Heard]) -> bool
+    ensures { result ≡ all_read (map answer_of heard.now) }
+{
+    let mut rest = heard;
+    while let [first, after @ ..] = rest {
+        if first.answer.is_err() {
+            return false;
+        }
+        rest = after;
+    }
+    true
+}
+
 /// What is written for lines.
 #[derive(Drop)]
 pub(crate) struct Told {
     /// The words of each line and a LF.
     pub(crate) words: Vec<u8>,
+    /// The faults, and with a report what came of each line's looks.
     pub(crate) faults: Vec<u8>,
     /// They didn't end for want of memory.
     pub(crate) is_whole: bool,
 }
 
-/// Tells answers in order, up to the first for which memory is wanting. They are numbered on from the number of the first.
-pub(crate) fn tell_answers(alloc: Global, answers: &[Result<Spoken, LineFault>], first: u64) -> Told
-    requires { first + length answers.now < 2 ^ 64 }
-    ensures { TellsFront first (map answer_of answers.now) result.words.items result.faults.items result.is_whole }
+/// Tells what was heard of lines in order, up to the first for which memory is wanting. They are numbered on from the number of the first.
+pub(crate) fn tell_answers(alloc: Global, report: bool, heard: &[Heard], first: u64) -> Told
+    requires { first + length heard.now < 2 ^ 64 }
+    ensures { TellsFront report first heard.now result.words.items result.faults.items result.is_whole }
 {
     let mut told = Told {
         words: Vec::new(alloc),
@@ -83,8 +114,15 @@ pub(crate) fn tell_answers(alloc: Global, answers: &[Result<Spoken, LineFault>],
         is_whole: false,
     };
     let mut number = first;
-    for answer in answers {
-        let Ok(()) = tell(alloc, number, answer, &mut told.words, &mut told.faults) else {
+    for line in heard {
+        let Ok(()) = tell(
+            alloc,
+            report,
+            number,
+            line,
+            &mut told.words,
+            &mut told.faults,
+        ) else {
             return told;
         };
         number += 1;
@@ -96,31 +134,46 @@ pub(crate) fn tell_answers(alloc: Global, answers: &[Result<Spoken, LineFault>],
 /// Adds what is written for one line, or nothing for want of memory.
 fn tell(
     alloc: Global,
+    report: bool,
     number: u64,
-    answer: &Result<Spoken, LineFault>,
+    heard: &Heard,
     words: &mut Vec<u8>,
     faults: &mut Vec<u8>,
 ) -> Result<(), AllocError>
-    ensures words { OnOk result (words.new.items ≡ words.old.items ++ words_text (answer_of answer.now)) }
-    ensures faults { OnOk result (faults.new.items ≡ faults.old.items ++ fault_text number (answer_of answer.now)) }
+    ensures words { OnOk result (words.new.items ≡ words.old.items ++ words_text (answer_of heard.now)) }
+    ensures faults { OnOk result (faults.new.items ≡ faults.old.items ++ line_text report number (answer_of heard.now) (tally_of heard.now)) }
     ensures words_kept { OnErr result (words.new.items ≡ words.old.items) }
     ensures faults_kept { OnErr result (faults.new.items ≡ faults.old.items) }
 {
+    let text = line_text(alloc, report, number, heard)?;
     let kept = faults.len();
-    if let Err(fault) = answer {
-        let text = fault_line(alloc, number, *fault)?;
-        faults.extend_from_slice(text.as_bytes())?;
-    }
-    if write(answer, words).is_err() {
+    faults.extend_from_slice(&text)?;
+    if write(&heard.answer, words).is_err() {
         faults.truncate(kept);
         return Err(AllocError);
     }
     Ok(())
 }
 
+/// What is told of one line: its fault, and with a report what came of its looks.
+fn line_text(alloc: Global, report: bool, number: u64, heard: &Heard) -> Result<Vec<u8>, AllocError>
+    ensures { IfOk result (λ text. text.items ≡ line_text report number (answer_of heard.now) (tally_of heard.now)) }
+{
+    let mut text = Vec::new(alloc);
+    if let Err(fault) = &heard.answer {
+        let line = fault_line(alloc, number, *fault)?;
+        text.extend_from_slice(line.as_bytes())?;
+    }
+    if report {
+        let line = report_line(alloc, number, &heard.tally)?;
+        text.extend_from_slice(line.as_bytes())?;
+    }
+    Ok(text)
+}
+
 /// Adds the words of a line and a LF, or nothing for want of memory.
 fn write(answer: &Result<Spoken, LineFault>, words: &mut Vec<u8>) -> Result<(), AllocError>
-    ensures words { OnOk result (words.new.items ≡ words.old.items ++ words_text (answer_of answer.now)) }
+    ensures words { OnOk result (words.new.items ≡ words.old.items ++ words_text (answer_in answer.now)) }
     ensures kept { OnErr result (words.new.items ≡ words.old.items) }
 {
     let kept = words.len();

@@ -13,6 +13,7 @@
 mod batches;
 mod loading;
 mod outside;
+mod reports;
 mod requests;
 mod rules;
 mod running;

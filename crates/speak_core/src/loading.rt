@@ -2,22 +2,23 @@
 
 ghost use Rattle.std.specs.Prelude.{◌≡◌, ◌<◌, ◌≤◌, ◌++◌, All, IfErr, IfOk, IfSome, Some, length, slice_get};
 ghost use Rattle.normaliser.specs.Loads.{CanBeBuilt};
+ghost use Rattle.normaliser.specs.Searches.{IsNewCallerOf};
 ghost use Rattle.speak_setup.specs.Setups.{HasNames, HasVerbalizer, IsNamed, most_rules, names_of};
 ghost use Rattle.thrax_link.specs.Exports.{exports_of};
 ghost use Rattle.speak_core.specs.Accepted.{RequestAsks, NamesAsk, PlanOf, RulesOf, VerbaliserOf, all_rules, need_of};
 ghost use Rattle.speak_core.specs.Requests.{request_of};
-ghost use Rattle.speak_core.specs.Loaded.{Builds, CanLoad, Checks, Finds, FindsGrammar, FindsSetup, FindsPlanned, ChecksBy, SpeaksBy, expressions_of, plan_of};
+ghost use Rattle.speak_core.specs.Loaded.{Builds, CanLoad, Checks, Finds, FindsGrammar, FindsSetup, FindsPlanned, ChecksBy, IsLoaded, SpeaksBy, expressions_of, plan_of};
 ghost use Rattle.speak_core.specs.Stops.{Counts, IsRuleStop, IsReadStop};
 
 use crate::outside::fetch;
 use crate::requests::{Mode, Request};
 use crate::rules::rules_of;
-use crate::speakers::Speaker;
+use crate::speakers::{Loaded, Speaker};
 use crate::stop::Stop;
 use crate::{sizes, texts};
 use core_expressions::Expr;
 use norm_base::{Name, Shelf};
-use normaliser::{LoadFault, load};
+use normaliser::{Caller, LoadFault, Normaliser, load};
 use speak_setup::{Need, Setup, SetupFault, read_setup};
 use std::alloc::Global;
 use thrax_link::{Grammar, LinkFault, link};
@@ -30,19 +31,22 @@ pub(crate) struct Rules {
     pub(crate) verbaliser: Vec<Expr>,
 }
 
-/// The speaker that a request asks for.
+/// The speaker that a request asks for, over a table of so many places.
 pub(crate) fn find_speaker<H: Shelf>(
     alloc: Global,
     shelf: &mut H,
     request: &Request<'_>,
-) -> Result<Speaker, Stop>
+    places: u32,
+) -> Result<Loaded, Stop>
+    requires places { (1 ≤ places) × (places ≤ 4096) }
     ensures finds { IfSome (H.files shelf.old) (λ files. FindsPlanned SpeaksBy (RequestAsks files (request_of request.now)) result) }
+    ensures ready { IfOk result IsLoaded }
     ensures files { H.files shelf.new ≡ H.files shelf.old }
     ensures counts { Counts (H.faults shelf.old) (H.faults shelf.new) result }
     ensures stops { IfErr result IsReadStop }
 {
     let setup = find_setup(alloc, shelf, request)?;
-    find_named(alloc, shelf, request.mode, &setup)
+    find_named(alloc, shelf, request.mode, &setup, places)
 }
 
 /// The sizes of the rules that a request asks for, as they are told, once all of them are built.
@@ -96,15 +100,18 @@ fn find_named<H: Shelf>(
     shelf: &mut H,
     mode: Mode,
     setup: &Setup,
-) -> Result<Speaker, Stop>
-    requires { HasNames (need_of mode) (names_of setup.now) }
+    places: u32,
+) -> Result<Loaded, Stop>
+    requires names { HasNames (need_of mode) (names_of setup.now) }
+    requires places { (1 ≤ places) × (places ≤ 4096) }
     ensures finds { IfSome (H.files shelf.old) (λ files. FindsPlanned SpeaksBy (NamesAsk files mode (names_of setup.now)) result) }
+    ensures ready { IfOk result IsLoaded }
     ensures files { H.files shelf.new ≡ H.files shelf.old }
     ensures counts { Counts (H.faults shelf.old) (H.faults shelf.new) result }
     ensures stops { IfErr result IsReadStop }
 {
     let rules = find_plan(alloc, shelf, mode, setup)?;
-    build(alloc, mode, setup, &rules)
+    build(alloc, mode, setup, &rules, places)
 }
 
 /// The sizes of the rules of a setup.
@@ -130,7 +137,7 @@ fn check(alloc: Global, mode: Mode, setup: &Setup, rules: &Rules) -> Result<Vec<
     ensures checks { Checks (names_of setup.now) (plan_of mode (names_of setup.now) rules.now) result }
     ensures stops { IfErr result IsRuleStop }
 {
-    let _built = build(alloc, mode, setup, rules)?;
+    let _built = build(alloc, mode, setup, rules, 1)?;
     let text = sizes::all(alloc, setup, rules)?;
     Ok(text)
 }
@@ -226,19 +233,39 @@ fn find_grammar<H: Shelf>(alloc: Global, shelf: &mut H, file: &Name) -> Result<G
 }
 
 /// The speaker of these rules, or the refusal of the first of which a rewrite may read the empty text.
-fn build(alloc: Global, mode: Mode, setup: &Setup, rules: &Rules) -> Result<Speaker, Stop>
-    requires { CanLoad (names_of setup.now) rules.now }
+fn build(
+    alloc: Global,
+    mode: Mode,
+    setup: &Setup,
+    rules: &Rules,
+    places: u32,
+) -> Result<Loaded, Stop>
+    requires rules { CanLoad (names_of setup.now) rules.now }
+    requires places { (1 ≤ places) × (places ≤ 4096) }
     ensures builds { Builds (names_of setup.now) (plan_of mode (names_of setup.now) rules.now) result }
+    ensures ready { IfOk result IsLoaded }
     ensures stops { IfErr result IsRuleStop }
 {
-    match load(alloc, &rules.classifier, &rules.verbaliser) {
-        Ok(normaliser) => Ok(Speaker { normaliser, mode }),
+    match load(alloc, &rules.classifier, &rules.verbaliser, places, 1) {
+        Ok((normaliser, callers)) => Ok(loaded(mode, normaliser, callers)),
         Err(LoadFault::RewritesEmpty { rule }) => {
             let name = rule_name(setup, rule);
             Err(Stop::refused(texts::rewrites_empty(alloc, name)))
         }
         Err(LoadFault::Memory) => Err(Stop::Memory),
     }
+}
+
+/// The speaker of a normaliser, by its one caller.
+fn loaded(mode: Mode, normaliser: Normaliser, mut callers: Vec<Caller>) -> Loaded
+    requires one { length callers.items ≡ 1 }
+    requires ready { All (IsNewCallerOf normaliser) callers.items }
+    ensures speaker { result.speaker ≡ record { normaliser = normaliser; mode = mode } }
+    ensures ready { IsLoaded result }
+{
+    let caller = callers.pop().unwrap();
+    let speaker = Speaker { normaliser, mode };
+    Loaded { speaker, caller }
 }
 
 /// The name of the rule of this number. The verbaliser's rules are counted after the classifier's.

@@ -8,20 +8,21 @@ ghost use Rattle.norm_base.specs.Counts.{Rose};
 ghost use Rattle.normaliser.specs.Lines.{Answer};
 ghost use Rattle.text_lines.specs.Lines.{lines};
 ghost use Rattle.speak_core.specs.Accepted.{Asks, Refused};
-ghost use Rattle.speak_core.specs.Answers.{AllSaid, told, written};
+ghost use Rattle.speak_core.specs.Answers.{AllSaid, Tells, written};
 ghost use Rattle.speak_core.specs.Requests.{job_in};
 ghost use Rattle.speak_core.specs.Devices.{seen};
 ghost use Rattle.speak_core.specs.Inputs.{GaveTooMuch, IfGaveTooMuch};
-ghost use Rattle.speak_core.specs.Loaded.{StopsAs};
+ghost use Rattle.speak_core.specs.Loaded.{IsLoaded, StopsAs};
 ghost use Rattle.speak_core.specs.Outputs.{reads_input};
-ghost use Rattle.speak_core.specs.Owed.{OfOwed, SpeaksAll};
-ghost use Rattle.speak_core.specs.Parts.{Writes, says_of};
+ghost use Rattle.speak_core.specs.Owed.{OfOwed, SpeaksAll, Told};
+ghost use Rattle.speak_core.specs.Parts.{AppendsSome, Writes, says_of};
 ghost use Rattle.speak_core.specs.Stops.{AllCounts, Counts, IsAccepted, IsDeviceStop, IsReadingStop, IsRefusalStop};
-ghost use Rattle.speak_core.specs.Works.{WorkCounts, work_lines, work_reads, work_says, work_text};
+ghost use Rattle.speak_core.specs.Works.{CanBeDone, WorkCounts, work_lines, work_reads, work_reports, work_says, work_text};
 
 use crate::outside::{put, read_all};
+use crate::reports::Report;
 use crate::sampling::speak_sample;
-use crate::speakers::Speaker;
+use crate::speakers::Loaded;
 use crate::speaking::speak_lines;
 use crate::stop::Stop;
 use crate::works::{Work, find_work};
@@ -50,8 +51,8 @@ pub(crate) fn run<H: Shelf, S: Source, O: Sink, E: Sink>(
         IfOk result (SpeaksAll words.now devices) }
     ensures end { OnOk result (IfSome (job_in words.now) (λ job. reads_input job ≡ true → IsAtEnd (S.left source.new))) }
     ensures kept { IfSome (job_in words.now) (λ job. reads_input job ≡ false → S.left source.new ≡ S.left source.old) }
-    ensures words_front { OfOwed words.now (H.files shelf.old) (S.left source.old) (λ output faults. AppendsPrefix (O.held out.old) (O.held out.new) output) }
-    ensures faults_front { OfOwed words.now (H.files shelf.old) (S.left source.old) (λ output faults. AppendsPrefix (E.held err.old) (E.held err.new) faults) }
+    ensures words_front { OfOwed words.now (H.files shelf.old) (S.left source.old) (λ output spoke. AppendsPrefix (O.held out.old) (O.held out.new) output) }
+    ensures faults_front { OfOwed words.now (H.files shelf.old) (S.left source.old) (λ output spoke. AppendsSome (Told spoke) (E.held err.old) (E.held err.new)) }
     ensures silent_out { IsErrAnd result IsRefusalStop → O.held out.new ≡ O.held out.old }
     ensures silent_err { IsErrAnd result IsRefusalStop → E.held err.new ≡ E.held err.old }
     ensures unread { IsErrAnd result IsRefusalStop → S.left source.new ≡ S.left source.old }
@@ -64,23 +65,25 @@ pub(crate) fn run<H: Shelf, S: Source, O: Sink, E: Sink>(
     let Some(asked) = asked else {
         return Err(Stop::Words);
     };
-    let work = find_work(alloc, shelf, &asked.mode)?;
-    do_work(alloc, &work, source, out, err)
+    let work = find_work(alloc, shelf, &asked.mode, asked.settings.places)?;
+    do_work(alloc, work, asked.settings.report, source, out, err)
 }
 
 /// Does what is left of a job, and answers whether each line was read.
 fn do_work<S: Source, O: Sink, E: Sink>(
     alloc: Global,
-    work: &Work,
+    work: Work,
+    wants_report: bool,
     source: &mut S,
     out: &mut O,
     err: &mut E,
 ) -> Result<bool, Stop>
-    ensures done { IfSome (S.left source.old) (λ input. IfOk result (Writes (work_says work.now) (work_lines work.now input) (work_text work.now) (O.held out.old) (O.held out.new) (E.held err.old) (E.held err.new))) }
-    ensures out_front { IfSome (S.left source.old) (λ input. (answers : List Answer) → AllSaid (work_says work.now) (work_lines work.now input) answers → AppendsPrefix (O.held out.old) (O.held out.new) (work_text work.now answers)) }
-    ensures err_front { IfSome (S.left source.old) (λ input. (answers : List Answer) → AllSaid (work_says work.now) (work_lines work.now input) answers → AppendsPrefix (E.held err.old) (E.held err.new) (told 1 answers)) }
-    ensures end { work_reads work.now ≡ true → OnOk result (IsAtEnd (S.left source.new)) }
-    ensures kept { work_reads work.now ≡ false → S.left source.new ≡ S.left source.old }
+    requires ready { CanBeDone work }
+    ensures done { IfSome (S.left source.old) (λ input. IfOk result (Writes (work_says work) (work_reports work wants_report) (work_lines work input) (work_text work) (O.held out.old) (O.held out.new) (E.held err.old) (E.held err.new))) }
+    ensures out_front { IfSome (S.left source.old) (λ input. (answers : List Answer) → AllSaid (work_says work) (work_lines work input) answers → AppendsPrefix (O.held out.old) (O.held out.new) (work_text work answers)) }
+    ensures err_front { IfSome (S.left source.old) (λ input. (answers : List Answer) → AllSaid (work_says work) (work_lines work input) answers → AppendsSome (Tells (work_reports work wants_report) (work_lines work input) answers) (E.held err.old) (E.held err.new)) }
+    ensures end { work_reads work ≡ true → OnOk result (IsAtEnd (S.left source.new)) }
+    ensures kept { work_reads work ≡ false → S.left source.new ≡ S.left source.old }
     ensures too_long { IsErrOf result Stop.TooLong → GaveTooMuch (S.left source.old) (S.left source.new) }
     ensures only_too_long { IfGaveTooMuch (S.left source.old) (S.left source.new) (IsErrOf result Stop.TooLong) }
     ensures counts { WorkCounts (S.faults source.old) (S.faults source.new) (O.faults out.old) (O.faults out.new) (E.faults err.old) (E.faults err.new) result }
@@ -88,23 +91,25 @@ fn do_work<S: Source, O: Sink, E: Sink>(
     ensures stops { IfErr result IsReadingStop }
 {
     match work {
-        Work::Input(speaker) => speak_input(alloc, speaker, source, out, err),
-        Work::Checked(text) => tell_sizes(out, text),
-        Work::Sampled(sample) => speak_sample(alloc, sample, out, err),
+        Work::Input(loaded) => speak_input(alloc, loaded, wants_report, source, out, err),
+        Work::Checked(text) => tell_sizes(out, &text),
+        Work::Sampled(sample) => speak_sample(alloc, wants_report, sample, out, err),
     }
 }
 
 /// Speaks the lines of the input.
 fn speak_input<S: Source, O: Sink, E: Sink>(
     alloc: Global,
-    speaker: &Speaker,
+    loaded: Loaded,
+    wants_report: bool,
     source: &mut S,
     out: &mut O,
     err: &mut E,
 ) -> Result<bool, Stop>
-    ensures done { IfSome (S.left source.old) (λ input. IfOk result (Writes (says_of speaker.now) (lines input) written (O.held out.old) (O.held out.new) (E.held err.old) (E.held err.new))) }
-    ensures out_front { IfSome (S.left source.old) (λ input. (answers : List Answer) → AllSaid (says_of speaker.now) (lines input) answers → AppendsPrefix (O.held out.old) (O.held out.new) (written answers)) }
-    ensures err_front { IfSome (S.left source.old) (λ input. (answers : List Answer) → AllSaid (says_of speaker.now) (lines input) answers → AppendsPrefix (E.held err.old) (E.held err.new) (told 1 answers)) }
+    requires ready { IsLoaded loaded }
+    ensures done { IfSome (S.left source.old) (λ input. IfOk result (Writes (says_of loaded.speaker) wants_report (lines input) written (O.held out.old) (O.held out.new) (E.held err.old) (E.held err.new))) }
+    ensures out_front { IfSome (S.left source.old) (λ input. (answers : List Answer) → AllSaid (says_of loaded.speaker) (lines input) answers → AppendsPrefix (O.held out.old) (O.held out.new) (written answers)) }
+    ensures err_front { IfSome (S.left source.old) (λ input. (answers : List Answer) → AllSaid (says_of loaded.speaker) (lines input) answers → AppendsSome (Tells wants_report (lines input) answers) (E.held err.old) (E.held err.new)) }
     ensures end { OnOk result (IsAtEnd (S.left source.new)) }
     ensures too_long { IsErrOf result Stop.TooLong → GaveTooMuch (S.left source.old) (S.left source.new) }
     ensures only_too_long { IfGaveTooMuch (S.left source.old) (S.left source.new) (IsErrOf result Stop.TooLong) }
@@ -113,7 +118,14 @@ fn speak_input<S: Source, O: Sink, E: Sink>(
     ensures stops { IfErr result IsReadingStop }
 {
     let input = read_all(alloc, source)?;
-    speak_lines(alloc, speaker, &input, out, err)
+    let Loaded {
+        speaker,
+        mut caller,
+    } = loaded;
+    let mut report = Report::new(wants_report);
+    let is_read = speak_lines(alloc, &mut report, &speaker, &mut caller, &input, out, err)?;
+    report.tell(alloc, err)?;
+    Ok(is_read)
 }
 
 /// Writes the sizes of rules, and answers that no line was refused.

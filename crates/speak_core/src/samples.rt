@@ -1,11 +1,11 @@
 ghost use Rattle.std.specs.Prelude.{◌<◌, ◌^◌};
 
-use crate::speakers::Speaker;
+use crate::speakers::Loaded;
 
 /// A sample, and what speaks it.
 #[derive(Drop)]
 pub(crate) struct Sample {
-    pub(crate) speaker: Speaker,
+    pub(crate) loaded: Loaded,
     /// How many lines it has.
     pub(crate) count: u32,
     /// The state that its first line is made of.

@@ -4,68 +4,108 @@ ghost use Rattle.std.specs.Prelude.{◌≡◌, ◌≤◌, ◌<◌, ◌+◌, ◌+
 ghost use Rattle.std.specs.Option.{option_map};
 ghost use Rattle.norm_base.specs.Bytes.{AppendsPrefix};
 ghost use Rattle.normaliser.specs.Lines.{Answer};
+ghost use Rattle.normaliser.specs.Searches.{IsCallerOf};
 ghost use Rattle.sample_lines.specs.Summary.{Said, totals_of};
-ghost use Rattle.speak_core.specs.Answers.{AllSaid, told};
+ghost use Rattle.speak_core.specs.Answers.{AllSaid, Tells};
+ghost use Rattle.speak_core.specs.Loaded.{IsLoaded};
 ghost use Rattle.speak_core.specs.Outputs.{said_of, sample_lines, summary_of};
-ghost use Rattle.speak_core.specs.Parts.{SumsUp, Writes, answer_of, lines_of, says_of};
+ghost use Rattle.speak_core.specs.Parts.{AppendsSome, SumsUp, TellsSome, Writes, answer_in, answer_of, lines_of, says_of};
 ghost use Rattle.speak_core.specs.Stops.{Counts, IsDeviceStop, SinkCounts};
 
-use crate::batches::{MOST_LINES, answer_lines, tell_answers};
+use crate::batches::{Heard, MOST_LINES, answer_lines, tell_answers};
 use crate::outside::put;
+use crate::reports::{Report, add_all};
 use crate::samples::Sample;
-use crate::speakers::Speaker;
+use crate::speakers::{Loaded, Speaker};
 use crate::stop::Stop;
 use norm_base::Sink;
-use normaliser::{LineFault, Spoken};
+use normaliser::{Caller, LineFault, Spoken};
 use sample_lines::{Summary, sample_batch};
 use std::alloc::{AllocError, Global};
 
 /// Speaks the lines of a sample, writes the summary of what they say, and answers whether each was read.
 pub(crate) fn speak_sample<O: Sink, E: Sink>(
     alloc: Global,
-    sample: &Sample,
+    wants_report: bool,
+    sample: Sample,
     out: &mut O,
     err: &mut E,
 ) -> Result<bool, Stop>
-    ensures done { IfOk result (Writes (says_of sample.now.speaker) (sample_lines sample.now.count sample.now.start) summary_of (O.held out.old) (O.held out.new) (E.held err.old) (E.held err.new)) }
-    ensures out_front { (answers : List Answer) → AllSaid (says_of sample.now.speaker) (sample_lines sample.now.count sample.now.start) answers → AppendsPrefix (O.held out.old) (O.held out.new) (summary_of answers) }
-    ensures err_front { (answers : List Answer) → AllSaid (says_of sample.now.speaker) (sample_lines sample.now.count sample.now.start) answers → AppendsPrefix (E.held err.old) (E.held err.new) (told 1 answers) }
+    requires ready { IsLoaded sample.loaded }
+    ensures done { IfOk result (Writes (says_of sample.loaded.speaker) wants_report (sample_lines sample.count sample.start) summary_of (O.held out.old) (O.held out.new) (E.held err.old) (E.held err.new)) }
+    ensures out_front { (answers : List Answer) → AllSaid (says_of sample.loaded.speaker) (sample_lines sample.count sample.start) answers → AppendsPrefix (O.held out.old) (O.held out.new) (summary_of answers) }
+    ensures err_front { (answers : List Answer) → AllSaid (says_of sample.loaded.speaker) (sample_lines sample.count sample.start) answers → AppendsSome (Tells wants_report (sample_lines sample.count sample.start) answers) (E.held err.old) (E.held err.new) }
     ensures counts { SinkCounts (O.faults out.old) (O.faults out.new) (E.faults err.old) (E.faults err.new) result }
     ensures later { E.faults err.old ≤ E.faults err.new }
     ensures stops { IfErr result IsDeviceStop }
 {
-    let summary = sum_up(alloc, sample, err)?;
+    let Sample {
+        loaded,
+        count,
+        start,
+    } = sample;
+    let Loaded {
+        speaker,
+        mut caller,
+    } = loaded;
+    let mut report = Report::new(wants_report);
+    let summary = sum_up(alloc, &mut report, &speaker, &mut caller, count, start, err)?;
+    report.tell(alloc, err)?;
     let text = summary.text(alloc)?;
     put(out, &text)?;
     Ok(summary.refused() == 0)
 }
 
 /// Sums up what the lines of a sample say, and tells their faults. One batch of them is kept at a time.
-fn sum_up<E: Sink>(alloc: Global, sample: &Sample, err: &mut E) -> Result<Summary, Stop>
-    ensures done { IfOk result (λ summary. SumsUp (says_of sample.now.speaker) 1 (sample_lines sample.now.count sample.now.start) (totals_of []) summary (E.held err.old) (E.held err.new)) }
-    ensures front { (answers : List Answer) → AllSaid (says_of sample.now.speaker) (sample_lines sample.now.count sample.now.start) answers → AppendsPrefix (E.held err.old) (E.held err.new) (told 1 answers) }
+fn sum_up<E: Sink>(
+    alloc: Global,
+    report: &mut Report,
+    speaker: &Speaker,
+    caller: &mut Caller,
+    count: u32,
+    start: u32,
+    err: &mut E,
+) -> Result<Summary, Stop>
+    requires start { start < 2 ^ 31 }
+    requires ready { IsCallerOf speaker.now.normaliser caller.old }
+    ensures done { IfOk result (λ summary. SumsUp (says_of speaker.now) report.old.is_wanted 1 report.old.total report.new.total (sample_lines count start) (totals_of []) summary (E.held err.old) (E.held err.new)) }
+    ensures front { (answers : List Answer) → AllSaid (says_of speaker.now) (sample_lines count start) answers → TellsSome report.old.is_wanted 1 (sample_lines count start) answers (E.held err.old) (E.held err.new) }
+    ensures wanted { report.new.is_wanted ≡ report.old.is_wanted }
+    ensures count { OnOk result (report.new.lines ≡ count) }
     ensures counts { Counts (E.faults err.old) (E.faults err.new) result }
     ensures later { E.faults err.old ≤ E.faults err.new }
     ensures stops { IfErr result IsDeviceStop }
 {
     let mut summary = Summary::new(alloc);
-    let mut state = sample.start;
+    let mut state = start;
     let mut done = 0u32;
-    while done < sample.count {
-        let size = (sample.count - done).min(MOST_LINES as u32);
+    while done < count {
+        let size = (count - done).min(MOST_LINES as u32);
         let (lines, next) = sample_batch(alloc, state, size as usize)?;
         let first = u64::from(done) + 1;
-        sum_batch(alloc, &sample.speaker, &lines, first, &mut summary, err)?;
+        sum_batch(
+            alloc,
+            report,
+            speaker,
+            caller,
+            &lines,
+            first,
+            &mut summary,
+            err,
+        )?;
         done += size;
         state = next;
     }
+    report.lines = u64::from(count);
     Ok(summary)
 }
 
 /// Adds what the lines of a batch say to a summary, and tells their faults, numbered on from this number.
 fn sum_batch<E: Sink>(
     alloc: Global,
+    report: &mut Report,
     speaker: &Speaker,
+    caller: &mut Caller,
     batch: &[Vec<u8>],
     first: u64,
     summary: &mut Summary,
@@ -73,18 +113,22 @@ fn sum_batch<E: Sink>(
 ) -> Result<(), Stop>
     requires numbers { first + length batch.now < 2 ^ 64 }
     requires room { summary.old.lines + length batch.now ≤ 2 ^ 32 }
-    ensures done { OnOk result (SumsUp (says_of speaker.now) first (map (λ line. line.items) batch.now) summary.old summary.new (E.held err.old) (E.held err.new)) }
-    ensures front { (answers : List Answer) → AllSaid (says_of speaker.now) (map (λ line. line.items) batch.now) answers → AppendsPrefix (E.held err.old) (E.held err.new) (told first answers) }
+    requires ready { IsCallerOf speaker.now.normaliser caller.old }
+    ensures ready { IsCallerOf speaker.now.normaliser caller.new }
+    ensures done { OnOk result (SumsUp (says_of speaker.now) report.old.is_wanted first report.old.total report.new.total (map (λ line. line.items) batch.now) summary.old summary.new (E.held err.old) (E.held err.new)) }
+    ensures front { (answers : List Answer) → AllSaid (says_of speaker.now) (map (λ line. line.items) batch.now) answers → TellsSome report.old.is_wanted first (map (λ line. line.items) batch.now) answers (E.held err.old) (E.held err.new) }
+    ensures wanted { report.new.is_wanted ≡ report.old.is_wanted }
     ensures counts { Counts (E.faults err.old) (E.faults err.new) result }
     ensures later { E.faults err.old ≤ E.faults err.new }
     ensures stops { IfErr result IsDeviceStop }
 {
     let lines = borrowed(alloc, batch)?;
-    let answers = answer_lines(alloc, speaker, &lines);
-    let told = tell_answers(alloc, &answers.all, first);
+    let answers = answer_lines(alloc, speaker, caller, &lines);
+    let told = tell_answers(alloc, report.is_wanted, &answers.all, first);
     put(err, &told.faults)?;
     if answers.is_whole && told.is_whole {
         add_answers(alloc, &answers.all, summary)?;
+        add_all(&mut report.total, &answers.all);
         Ok(())
     } else {
         Err(Stop::Memory)
@@ -103,23 +147,19 @@ fn borrowed<'a>(alloc: Global, batch: &'a [Vec<u8>]) -> Result<Vec<&'a [u8]>, Al
 }
 
 /// Adds what lines say to a summary.
-fn add_answers(
-    alloc: Global,
-    answers: &[Result<Spoken, LineFault>],
-    summary: &mut Summary,
-) -> Result<(), AllocError>
+fn add_answers(alloc: Global, answers: &[Heard], summary: &mut Summary) -> Result<(), AllocError>
     requires { summary.old.lines + length answers.now ≤ 2 ^ 32 }
     ensures { OnOk result ((before : List Said) → summary.old ≡ totals_of before → summary.new ≡ totals_of (before ++ map said_of (map answer_of answers.now))) }
 {
     for answer in answers {
-        summary.add(alloc, words_of(answer))?;
+        summary.add(alloc, words_of(&answer.answer))?;
     }
     Ok(())
 }
 
 /// The words of a line that isn't refused.
 fn words_of(answer: &Result<Spoken, LineFault>) -> Option<&[u8]>
-    ensures { option_map (λ words. words.now) result ≡ said_of (answer_of answer.entry.now) }
+    ensures { option_map (λ words. words.now) result ≡ said_of (answer_in answer.entry.now) }
 {
     match answer {
         Ok(spoken) => Some(&spoken.words),

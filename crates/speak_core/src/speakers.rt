@@ -1,11 +1,13 @@
 // A normaliser with what is asked of it.
 
-ghost use Rattle.std.specs.Prelude.{IfOk};
-ghost use Rattle.normaliser.specs.Lines.{IsSaid};
-ghost use Rattle.speak_core.specs.Parts.{answer_of, says_of};
+ghost use Rattle.std.specs.Prelude.{◌≡◌, IfOk};
+ghost use Rattle.normaliser.specs.Lines.{IsSaid, IsSearched};
+ghost use Rattle.normaliser.specs.Searches.{Did, IsCallerOf};
+ghost use Rattle.speak_core.specs.Parts.{IsPart, answer_of, is_short, says_of};
 
+use crate::batches::Heard;
 use crate::requests::Mode;
-use normaliser::{LineFault, Normaliser, Spoken};
+use normaliser::{Caller, LineFault, Normaliser, Spoken};
 use std::alloc::{AllocError, Global};
 
 /// A normaliser, and what is asked of it for each line.
@@ -15,28 +17,53 @@ pub(crate) struct Speaker {
     pub(crate) mode: Mode,
 }
 
+/// A speaker, and the caller that it speaks by.
+#[derive(Drop)]
+pub(crate) struct Loaded {
+    pub(crate) speaker: Speaker,
+    pub(crate) caller: Caller,
+}
+
 impl Speaker {
-    /// What a line says, or its first fault. Want of memory is none.
+    /// What a line says, or its first fault, with what came of its looks. Want of memory is no fault. The caller's tally begins anew.
     pub(crate) fn answer(
         &self,
         alloc: Global,
+        caller: &mut Caller,
         line: &[u8],
-    ) -> Result<Result<Spoken, LineFault>, AllocError>
-        ensures { IfOk result (λ answer. says_of self.now line.now (answer_of answer)) }
+    ) -> Result<Heard, AllocError>
+        requires ready { IsCallerOf self.now.normaliser caller.old }
+        ensures said { IfOk result (λ h. says_of self.now line.now (answer_of h)) }
+        ensures part { IfOk result (λ h. IsPart self.now.normaliser line.now caller.old caller.new h.tally) }
+        ensures ready { IsCallerOf self.now.normaliser caller.new }
     {
-        match self.say(alloc, line) {
-            Ok(spoken) => Ok(Ok(spoken)),
-            Err(LineFault::Memory) => Err(AllocError),
-            Err(fault) => Ok(Err(fault)),
+        let _others = caller.take_tally();
+        let answer = self.say(alloc, caller, line);
+        let tally = caller.take_tally();
+        let was_short = is_short(&answer);
+        if was_short {
+            return Err(AllocError);
         }
+        Ok(Heard { answer, tally })
     }
 
-    fn say(&self, alloc: Global, line: &[u8]) -> Result<Spoken, LineFault>
-        ensures { IsSaid (says_of self.now) line.now result }
+    fn say(&self, alloc: Global, caller: &mut Caller, line: &[u8]) -> Result<Spoken, LineFault>
+        requires ready { IsCallerOf self.now.normaliser caller.old }
+        ensures said { IsSaid (says_of self.now) line.now result }
+        ensures ready { IsCallerOf self.now.normaliser caller.new }
+        ensures searched { Did self.now.normaliser.shared caller.old caller.new result }
+        ensures kept { (IsSearched line.now → ⊥) → caller.new ≡ caller.old }
     {
         match self.mode {
-            Mode::Classify => self.normaliser.classify_line(alloc, line),
-            Mode::Speak => self.normaliser.speak_line(alloc, line),
+            Mode::Classify => self.normaliser.classify_line(alloc, caller, line),
+            Mode::Speak => self.normaliser.speak_line(alloc, caller, line),
         }
     }
+}
+
+/// Whether memory was wanting for a line.
+fn is_short(answer: &Result<Spoken, LineFault>) -> bool
+    ensures { result ≡ is_short answer.now }
+{
+    matches!(answer, Err(LineFault::Memory))
 }

@@ -4,30 +4,38 @@ ghost use Rattle.std.specs.Prelude.{◌≡◌, ◌≤◌, ◌<◌, ◌+◌, ◌^
 ghost use Rattle.std.specs.Io.KnownBytes.{Appends};
 ghost use Rattle.norm_base.specs.Bytes.{AppendsPrefix};
 ghost use Rattle.normaliser.specs.Lines.{Answer};
-ghost use Rattle.speak_core.specs.Answers.{AllSaid, written, told};
+ghost use Rattle.normaliser.specs.Searches.{IsCallerOf};
+ghost use Rattle.speak_core.specs.Answers.{AllSaid, written};
 ghost use Rattle.text_lines.specs.Lines.{lines};
-ghost use Rattle.speak_core.specs.Parts.{Speaks, lines_of, says_of};
+ghost use Rattle.speak_core.specs.Parts.{Speaks, TellsSome, lines_of, says_of};
 ghost use Rattle.speak_core.specs.Stops.{IsDeviceStop, SinkCounts};
 
-use crate::batches::{answer_lines, cut_batch, tell_answers};
+use crate::batches::{answer_lines, are_read, cut_batch, tell_answers};
 use crate::outside::put;
+use crate::reports::{Report, add_all};
 use crate::speakers::Speaker;
 use crate::stop::Stop;
 use norm_base::Sink;
+use normaliser::Caller;
 use std::alloc::Global;
 
 /// Speaks each line of a text, and answers whether each was read. What was told before a stop is written, where it can be.
 pub(crate) fn speak_lines<O: Sink, E: Sink>(
     alloc: Global,
+    report: &mut Report,
     speaker: &Speaker,
+    caller: &mut Caller,
     text: &[u8],
     out: &mut O,
     err: &mut E,
 ) -> Result<bool, Stop>
-    requires { length text.now ≤ 2 ^ 28 }
-    ensures done { IfOk result (λ is_read. Speaks (says_of speaker.now) 1 (lines text.now) (O.held out.old) (O.held out.new) (E.held err.old) (E.held err.new) is_read) }
+    requires fits { length text.now ≤ 2 ^ 28 }
+    requires ready { IsCallerOf speaker.now.normaliser caller.old }
+    ensures done { IfOk result (λ is_read. Speaks (says_of speaker.now) report.old.is_wanted 1 report.old.total report.new.total (lines text.now) (O.held out.old) (O.held out.new) (E.held err.old) (E.held err.new) is_read) }
     ensures out_front { (answers : List Answer) → AllSaid (says_of speaker.now) (lines text.now) answers → AppendsPrefix (O.held out.old) (O.held out.new) (written answers) }
-    ensures err_front { (answers : List Answer) → AllSaid (says_of speaker.now) (lines text.now) answers → AppendsPrefix (E.held err.old) (E.held err.new) (told 1 answers) }
+    ensures err_front { (answers : List Answer) → AllSaid (says_of speaker.now) (lines text.now) answers → TellsSome report.old.is_wanted 1 (lines text.now) answers (E.held err.old) (E.held err.new) }
+    ensures wanted { report.new.is_wanted ≡ report.old.is_wanted }
+    ensures count { OnOk result (report.new.lines ≡ length (lines text.now)) }
     ensures counts { SinkCounts (O.faults out.old) (O.faults out.new) (E.faults err.old) (E.faults err.new) result }
     ensures later { E.faults err.old ≤ E.faults err.new }
     ensures stops { IfErr result IsDeviceStop }
@@ -37,36 +45,52 @@ pub(crate) fn speak_lines<O: Sink, E: Sink>(
     let mut is_read = true;
     while !rest.is_empty() {
         let batch = cut_batch(alloc, rest)?;
-        let now_read = speak_batch(alloc, speaker, &batch.lines, number, out, err)?;
+        let now_read = speak_batch(
+            alloc,
+            report,
+            speaker,
+            caller,
+            &batch.lines,
+            number,
+            out,
+            err,
+        )?;
         is_read = is_read && now_read;
         number += batch.lines.len() as u64;
         rest = batch.rest;
     }
+    report.lines = number - 1;
     Ok(is_read)
 }
 
 /// Speaks the lines of a batch, which are numbered on from this number, and answers whether each was read.
 fn speak_batch<O: Sink, E: Sink>(
     alloc: Global,
+    report: &mut Report,
     speaker: &Speaker,
+    caller: &mut Caller,
     batch: &[&[u8]],
     first: u64,
     out: &mut O,
     err: &mut E,
 ) -> Result<bool, Stop>
-    requires { first + length batch.now < 2 ^ 64 }
-    ensures done { IfOk result (λ is_read. Speaks (says_of speaker.now) first (lines_of batch.now) (O.held out.old) (O.held out.new) (E.held err.old) (E.held err.new) is_read) }
+    requires numbers { first + length batch.now < 2 ^ 64 }
+    requires ready { IsCallerOf speaker.now.normaliser caller.old }
+    ensures ready { IsCallerOf speaker.now.normaliser caller.new }
+    ensures done { IfOk result (λ is_read. Speaks (says_of speaker.now) report.old.is_wanted first report.old.total report.new.total (lines_of batch.now) (O.held out.old) (O.held out.new) (E.held err.old) (E.held err.new) is_read) }
     ensures out_front { (answers : List Answer) → AllSaid (says_of speaker.now) (lines_of batch.now) answers → AppendsPrefix (O.held out.old) (O.held out.new) (written answers) }
-    ensures err_front { (answers : List Answer) → AllSaid (says_of speaker.now) (lines_of batch.now) answers → AppendsPrefix (E.held err.old) (E.held err.new) (told first answers) }
+    ensures err_front { (answers : List Answer) → AllSaid (says_of speaker.now) (lines_of batch.now) answers → TellsSome report.old.is_wanted first (lines_of batch.now) answers (E.held err.old) (E.held err.new) }
+    ensures wanted { report.new.is_wanted ≡ report.old.is_wanted }
     ensures counts { SinkCounts (O.faults out.old) (O.faults out.new) (E.faults err.old) (E.faults err.new) result }
     ensures later { E.faults err.old ≤ E.faults err.new }
     ensures stops { IfErr result IsDeviceStop }
 {
-    let answers = answer_lines(alloc, speaker, batch);
-    let told = tell_answers(alloc, &answers.all, first);
+    let answers = answer_lines(alloc, speaker, caller, batch);
+    let told = tell_answers(alloc, report.is_wanted, &answers.all, first);
     put_both(out, &told.words, err, &told.faults)?;
     if answers.is_whole && told.is_whole {
-        Ok(told.faults.is_empty())
+        add_all(&mut report.total, &answers.all);
+        Ok(are_read(&answers.all))
     } else {
         Err(Stop::Memory)
     }

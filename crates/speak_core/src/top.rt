@@ -8,7 +8,7 @@ ghost use Rattle.speak_core.specs.Accepted.{Accepted, IsRefusal, Refused};
 ghost use Rattle.speak_core.specs.Requests.{job_in};
 ghost use Rattle.speak_core.specs.Devices.{NoneRose, OfInput, SomeRose, seen, sink_seen};
 ghost use Rattle.speak_core.specs.Inputs.{GaveTooMuch, IfGaveTooMuch};
-ghost use Rattle.speak_core.specs.Owed.{OfOwed, SpeaksAll};
+ghost use Rattle.speak_core.specs.Owed.{OfOwed, SpeaksAll, spoke_nothing};
 ghost use Rattle.speak_core.specs.Outputs.{reads_input};
 ghost use Rattle.speak_core.specs.Plans.{Plan};
 ghost use Rattle.speak_core.specs.Stops.{IsEnd, IsStatus, text_of, last_text};
@@ -74,7 +74,7 @@ pub fn speak<R: Threads + Sync, H: Shelf, S: Source, O: Sink, E: Sink, W: Watch 
     ensures some_refused { let devices = seen H.Shelf S.Source O.Sink E.Sink shelf.old source.old out.old err.old shelf.new source.new out.new err.new in
         result ≡ 1 → SpeaksAll words.now devices false }
     ensures end { result ≤ 1 → IfSome (job_in words.now) (λ job. reads_input job ≡ true → IsAtEnd (S.left source.new)) }
-    ensures front { OfOwed words.now (H.files shelf.old) (S.left source.old) (λ output faults. AppendsPrefix (O.held out.old) (O.held out.new) output) }
+    ensures front { OfOwed words.now (H.files shelf.old) (S.left source.old) (λ output spoke. AppendsPrefix (O.held out.old) (O.held out.new) output) }
     ensures silent { (result ≡ 2) ⊎ (result ≡ 3) → O.held out.new ≡ O.held out.old }
 
     // With all accepted, no count that rose and an input within its limit, the lines are spoken or memory is wanting.
@@ -83,11 +83,11 @@ pub fn speak<R: Threads + Sync, H: Shelf, S: Source, O: Sink, E: Sink, W: Watch 
         → (result ≤ 1) ⊎ (result ≡ 5)) }
 
     // What is told last.
-    ensures told_words { result ≡ 2 → TellsLast (sink_seen E.Sink err.old) (sink_seen E.Sink err.new) [] (text_of Words) }
+    ensures told_words { result ≡ 2 → TellsLast (sink_seen E.Sink err.old) (sink_seen E.Sink err.new) spoke_nothing (text_of Words) }
     ensures told_refused { result ≡ 3 → IfSome (H.files shelf.old) (λ files. (text : List ℕ) → Refused words.now files text
-        → TellsLast (sink_seen E.Sink err.old) (sink_seen E.Sink err.new) [] text) }
-    ensures told_outside { result ≡ 4 → OfOwed words.now (H.files shelf.old) (S.left source.old) (λ output faults. TellsLast (sink_seen E.Sink err.old) (sink_seen E.Sink err.new) faults (text_of Outside)) }
-    ensures told_too_long { result ≡ 6 → OfOwed words.now (H.files shelf.old) (S.left source.old) (λ output faults. TellsLast (sink_seen E.Sink err.old) (sink_seen E.Sink err.new) faults (text_of TooLong)) }
+        → TellsLast (sink_seen E.Sink err.old) (sink_seen E.Sink err.new) spoke_nothing text) }
+    ensures told_outside { result ≡ 4 → OfOwed words.now (H.files shelf.old) (S.left source.old) (λ output spoke. TellsLast (sink_seen E.Sink err.old) (sink_seen E.Sink err.new) spoke (text_of Outside)) }
+    ensures told_too_long { result ≡ 6 → OfOwed words.now (H.files shelf.old) (S.left source.old) (λ output spoke. TellsLast (sink_seen E.Sink err.old) (sink_seen E.Sink err.new) spoke (text_of TooLong)) }
     ensures told_memory { let devices = seen H.Shelf S.Source O.Sink E.Sink shelf.old source.old out.old err.old shelf.new source.new out.new err.new in
         result ≡ 5 → TellsShort words.now devices }
 

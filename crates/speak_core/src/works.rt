@@ -1,6 +1,6 @@
 // What is left to do for a job once all is loaded.
 
-ghost use Rattle.std.specs.Prelude.{◌≡◌, ◌<◌, ◌^◌, IfErr, IfOk, IfSome, IsErrOf, true, false};
+ghost use Rattle.std.specs.Prelude.{◌≡◌, ◌<◌, ◌≤◌, ◌^◌, IfErr, IfOk, IfSome, IsErrOf, true, false};
 ghost use Rattle.sample_lines.specs.Toy.{toy_files};
 ghost use Rattle.speak_words.specs.Asked.{InBounds, job_of, sample};
 ghost use Rattle.speak_core.specs.Accepted.{JobAsks, RequestAsks};
@@ -8,12 +8,12 @@ ghost use Rattle.speak_core.specs.Loaded.{FindsPlanned};
 ghost use Rattle.speak_core.specs.Outputs.{reads_input};
 ghost use Rattle.speak_core.specs.Requests.{request_for, request_of};
 ghost use Rattle.speak_core.specs.Stops.{Counts, IsReadStop};
-ghost use Rattle.speak_core.specs.Works.{CheckedBy, Does, InputBy, SampledBy, work_reads};
+ghost use Rattle.speak_core.specs.Works.{CanBeDone, CheckedBy, Does, InputBy, SampledBy, work_reads};
 
 use crate::loading::{find_checked, find_speaker};
 use crate::requests::{Mode, Request};
 use crate::samples::Sample;
-use crate::speakers::Speaker;
+use crate::speakers::Loaded;
 use crate::stop::Stop;
 use norm_base::Shelf;
 use sample_lines::toy_shelf;
@@ -24,17 +24,24 @@ use std::alloc::Global;
 #[derive(Drop)]
 pub(crate) enum Work {
     /// The lines of the input are spoken.
-    Input(Speaker),
+    Input(Loaded),
     /// This text is written.
     Checked(Vec<u8>),
     /// The lines of a sample are spoken.
     Sampled(Sample),
 }
 
-/// What a job comes to. The sample is loaded from files of its own, and doesn't touch the shelf.
-pub(crate) fn find_work<H: Shelf>(alloc: Global, shelf: &mut H, job: &Job<'_>) -> Result<Work, Stop>
-    requires { InBounds job.now }
+/// What a job comes to, over a table of so many places. The sample is loaded from files of its own, and doesn't touch the shelf.
+pub(crate) fn find_work<H: Shelf>(
+    alloc: Global,
+    shelf: &mut H,
+    job: &Job<'_>,
+    places: u32,
+) -> Result<Work, Stop>
+    requires bounds { InBounds job.now }
+    requires places { (1 ≤ places) × (places ≤ 4096) }
     ensures finds { IfSome (H.files shelf.old) (λ files. FindsPlanned (Does (job_of job.now)) (JobAsks files (job_of job.now)) result) }
+    ensures ready { IfOk result CanBeDone }
     ensures reads { IfOk result (λ work. work_reads work ≡ reads_input (job_of job.now)) }
     ensures files { H.files shelf.new ≡ H.files shelf.old }
     ensures counts { Counts (H.faults shelf.old) (H.faults shelf.new) result }
@@ -43,35 +50,43 @@ pub(crate) fn find_work<H: Shelf>(alloc: Global, shelf: &mut H, job: &Job<'_>) -
     match *job {
         Job::Speak { setup } => {
             let mode = Mode::Speak;
-            find_lines(alloc, shelf, &Request { setup, mode })
+            find_lines(alloc, shelf, &Request { setup, mode }, places)
         }
         Job::Classify { setup } => {
             let mode = Mode::Classify;
-            find_lines(alloc, shelf, &Request { setup, mode })
+            find_lines(alloc, shelf, &Request { setup, mode }, places)
         }
         Job::Check { setup } => {
             let mode = Mode::Speak;
             find_sizes(alloc, shelf, &Request { setup, mode })
         }
-        Job::Sample { count, start } => find_sample(alloc, count, start),
+        Job::Sample { count, start } => find_sample(alloc, count, start, places),
     }
 }
 
 /// The lines of the input, for a request.
-fn find_lines<H: Shelf>(alloc: Global, shelf: &mut H, request: &Request<'_>) -> Result<Work, Stop>
+fn find_lines<H: Shelf>(
+    alloc: Global,
+    shelf: &mut H,
+    request: &Request<'_>,
+    places: u32,
+) -> Result<Work, Stop>
+    requires places { (1 ≤ places) × (places ≤ 4096) }
     ensures finds { IfSome (H.files shelf.old) (λ files. FindsPlanned InputBy (RequestAsks files (request_of request.now)) result) }
+    ensures ready { IfOk result CanBeDone }
     ensures reads { IfOk result (λ work. work_reads work ≡ true) }
     ensures files { H.files shelf.new ≡ H.files shelf.old }
     ensures counts { Counts (H.faults shelf.old) (H.faults shelf.new) result }
     ensures stops { IfErr result IsReadStop }
 {
-    let speaker = find_speaker(alloc, shelf, request)?;
-    Ok(Work::Input(speaker))
+    let loaded = find_speaker(alloc, shelf, request, places)?;
+    Ok(Work::Input(loaded))
 }
 
 /// The sizes of the rules of a request.
 fn find_sizes<H: Shelf>(alloc: Global, shelf: &mut H, request: &Request<'_>) -> Result<Work, Stop>
     ensures finds { IfSome (H.files shelf.old) (λ files. FindsPlanned CheckedBy (RequestAsks files (request_of request.now)) result) }
+    ensures ready { IfOk result CanBeDone }
     ensures reads { IfOk result (λ work. work_reads work ≡ false) }
     ensures files { H.files shelf.new ≡ H.files shelf.old }
     ensures counts { Counts (H.faults shelf.old) (H.faults shelf.new) result }
@@ -82,9 +97,11 @@ fn find_sizes<H: Shelf>(alloc: Global, shelf: &mut H, request: &Request<'_>) -> 
 }
 
 /// The lines of the sample, by its own files.
-fn find_sample(alloc: Global, count: u32, start: u32) -> Result<Work, Stop>
-    requires { start < 2 ^ 31 }
+fn find_sample(alloc: Global, count: u32, start: u32, places: u32) -> Result<Work, Stop>
+    requires start { start < 2 ^ 31 }
+    requires places { (1 ≤ places) × (places ≤ 4096) }
     ensures finds { FindsPlanned (SampledBy count start) (RequestAsks toy_files (request_for (sample count start))) result }
+    ensures ready { IfOk result CanBeDone }
     ensures reads { IfOk result (λ work. work_reads work ≡ false) }
     ensures inside { IsErrOf result Stop.Outside → ⊥ }
     ensures stops { IfErr result IsReadStop }
@@ -94,9 +111,9 @@ fn find_sample(alloc: Global, count: u32, start: u32) -> Result<Work, Stop>
         setup: "toy.setup",
         mode: Mode::Speak,
     };
-    let speaker = find_speaker(alloc, &mut shelf, &request)?;
+    let loaded = find_speaker(alloc, &mut shelf, &request, places)?;
     Ok(Work::Sampled(Sample {
-        speaker,
+        loaded,
         count,
         start,
     }))

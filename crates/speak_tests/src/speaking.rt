@@ -917,7 +917,7 @@ const RUNS: [(&[&str], [&[u64]; 4], &[u8], &[u8], u8); 29] = [
         1,
     ),
     (
-        &["speak", "--setup", "s", "--mode", "classify", "--report"],
+        &["speak", "--setup", "s", "--mode", "classify", "--reports"],
         [&[]; 4],
         b"",
         b"bad arguments\n",
@@ -1280,5 +1280,61 @@ fn an_input_past_its_limit_is_refused(rt: HostRuntime) -> Result<(), Fail> {
     assert_eq!(rt; left.status, 6);
     assert_eq!(rt; left.out.bytes(), b"".as_slice());
     assert_eq!(rt; left.err.bytes(), b"input too long\n".as_slice());
+    Ok(())
+}
+
+/// What is written and told is the same for every number of places.
+#[test]
+fn places_change_nothing(rt: HostRuntime) -> Result<(), Fail> {
+    let alloc = rt.alloc();
+    let grammar = b"export MAIN = (\"a\" : \"b\" <1>)* | (\"a\" : \"c\")* \"d\";".as_slice();
+    let files = [("s", SETUP), ("g.grm", grammar)];
+    for places in ["1", "2", "7", "256", "4096"] {
+        let command = [
+            "speak", "--setup", "s", "--mode", "classify", "--places", places,
+        ];
+        let left = run(&rt, alloc, &command, &files, b"aaa\naad\n\nda\n")?;
+        assert_eq!(rt; left.out.bytes(), b"bbb\nccd\n\n\n".as_slice());
+        assert_eq!(rt; left.err.bytes(), b"line 4: no path\n".as_slice());
+        assert_eq!(rt; left.status, 1);
+    }
+    Ok(())
+}
+
+/// The second of two equal lines finds all that it looks for. An empty line makes no looks.
+#[test]
+fn a_report(rt: HostRuntime) -> Result<(), Fail> {
+    let alloc = rt.alloc();
+    let grammar = b"export MAIN = \"a\" : \"b\";".as_slice();
+    let files = [("s", SETUP), ("g.grm", grammar)];
+    let command = [
+        "speak", "--setup", "s", "--mode", "classify", "--report", "--places", "4096",
+    ];
+    let left = run(&rt, alloc, &command, &files, b"a\na\n\nb\n")?;
+    assert_eq!(rt; left.out.bytes(), b"b\nb\n\n\n".as_slice());
+    let told = left.err.bytes();
+    let mut lines = told.split(|b| *b == b'\n');
+    let first = lines.next().unwrap_or(&[]);
+    let second = lines.next().unwrap_or(&[]);
+    assert!(rt; first.starts_with(b"report line 1: looks "));
+    assert!(rt; second.starts_with(b"report line 2: looks "));
+    assert!(rt; second.ends_with(b" absent 0 published 0 no_place 0 wide 0"));
+    assert_eq!(rt;
+        lines.next().unwrap_or(&[]),
+        b"report line 3: looks 0 shown 0 absent 0 published 0 no_place 0 wide 0".as_slice()
+    );
+    assert_eq!(rt; lines.next().unwrap_or(&[]), b"line 4: no path".as_slice());
+    assert!(rt;
+        lines
+            .next()
+            .unwrap_or(&[])
+            .starts_with(b"report line 4: looks ")
+    );
+    assert!(rt;
+        lines
+            .next()
+            .unwrap_or(&[])
+            .starts_with(b"report total: lines 4 looks ")
+    );
     Ok(())
 }

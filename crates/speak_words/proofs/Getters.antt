@@ -1,5 +1,5 @@
 -- The number of an option, as a typed getter reads it.
-use Rattle.std.proofs.Common.{◌≡◌, ◌≤◌, ◌<◌, ◌^◌, ℕ, List, Option, Some, None, Result, Ok, refl, unwrap_or}
+use Rattle.std.proofs.Common.{Bool, ◌≡◌, ◌≤◌, ◌<◌, ◌^◌, ℕ, List, Option, Some, None, IfSome, Result, Ok, refl, unwrap_or}
 use Rattle.std.specs.Option.{option_map_or}
 use Rattle.std.specs.Str.Parse.{ParsesUnsigned}
 use Rattle.clap.specs.Words.{ReadsOne, Text, one_of, one_text, rows_of}
@@ -11,6 +11,7 @@ use Rattle.std.specs.Prelude.{option_map}
 use Rattle.speak_words.specs.Asked.{job, job_of, number}
 use Rattle.speak_words.specs.declared.asked.Asked.{Asked}
 use Rattle.speak_words.specs.declared.asked.Mode.{Mode}
+use Rattle.speak_words.specs.declared.asked.Settings.{Settings}
 use Rattle.speak_words.specs.Numbers.{HasNumberIn}
 
 -- a number in bounds is read, and the default stands where there is none
@@ -46,9 +47,18 @@ pub same_job : (mode mode2 : Text) (setup setup2 : Option Text) (count count2 st
     → mode ≡ mode2 → setup ≡ setup2 → count ≡ count2 → start ≡ start2 → job mode setup count start ≡ job mode2 setup2 count2 start2
 same_job mode mode2 setup setup2 count count2 start start2 modes setups counts starts = rw (modes, setups, counts, starts) refl
 
-abbrev asked : Mode → Asked
-asked m = record { mode = m }
+abbrev asked : Settings → Mode → Asked
+asked s m = record { mode = m; settings = s }
 
-pub job-asked : (o : Option Mode) → option_map (λ a. job_of a.mode) (option_map asked o) ≡ option_map job_of o
-job-asked None = refl
-job-asked (Some mode) = refl
+module _ (s : Settings) where
+  pub job-asked : (o : Option Mode) → option_map (λ a. job_of a.mode) (option_map (asked s) o) ≡ option_map job_of o
+  job-asked None = refl
+  job-asked (Some mode) = refl
+
+  pub settings-asked : (P : Settings → Type 0) → P s → (o : Option Mode) → IfSome (option_map (asked s) o) (λ a. P a.settings)
+  settings-asked P holds None = tt
+  settings-asked P holds (Some mode) = holds
+
+pub same_settings : (places places2 : ℕ) (report report2 : Bool) → places ≡ places2 → report ≡ report2
+    → ◌≡◌ {A = Settings} (record { places = places; report = report }) (record { places = places2; report = report2 })
+same_settings places places2 report report2 p q = rw (p, q) refl

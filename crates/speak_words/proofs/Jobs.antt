@@ -1,5 +1,5 @@
 -- The job of words that clap takes or refuses.
-use Rattle.std.proofs.Common.{◌≡◌, ◌∙◌, ap, true, false, cond, List, [], ◌∷◌, Option, None, refl, sym, subst, inl, inr, arith}
+use Rattle.std.proofs.Common.{◌≡◌, ◌∙◌, ap, true, false, cond, List, [], ◌∷◌, Option, None, Some, IfSome, refl, sym, subst, inl, inr, arith}
 use Rattle.std.proofs.lemmas.Bool.{ne_eqb}
 use Rattle.clap.specs.Walk.{is_empty}
 use Rattle.clap.specs.Words.{App, HasKind, HasMatchesOf, IsAmong, Kinds, Text, fault_of, found_of, is_simple, is_simple_and_free, kind_of, matches_of, rows_of}
@@ -7,7 +7,8 @@ use Rattle.clap.specs.declared.error.Error.{Error}
 use Rattle.clap.specs.declared.error.kind.ErrorKind.{ErrorKind}
 use Rattle.clap.specs.declared.error.kind.ErrorKind.TheVariants.{OutOfMemory}
 use Rattle.clap.specs.declared.parser.matches.ArgMatches.{ArgMatches}
-use Rattle.speak_words.specs.Asked.{Job, job_by, job_for}
+use Rattle.speak_words.specs.Asked.{Job, job_by, job_for, settings_by, settings_for}
+use Rattle.speak_words.specs.declared.asked.Asked.{Asked}
 use Rattle.speak_words.specs.Options.{command}
 use Rattle.speak_words.proofs.Built.{simple, simple-free}
 
@@ -38,3 +39,11 @@ job-refused a words e is fails other =
       | inl memory ↦ absurd (other memory)
       | inr among ↦ some_fails (fault_of command words) (job_by (matches_of command words)) (kind_of e) among
     ]
+
+pub settings-taken : (a : App) (words : List Text) (m : ArgMatches) (asked : Option Asked) → a ≡ command → HasMatchesOf a words m
+    → IfSome asked (λ x. x.settings ≡ settings_by (rows_of (found_of m))) → IfSome asked (λ x. x.settings ≡ settings_for words)
+unfolding settings_for
+settings-taken a words m None is matches settings = tt
+settings-taken a words m (Some x) is matches settings =
+    let rows : rows_of (found_of m) ≡ matches_of command words = (matches (ap is_simple is ∙ simple)).0 ∙ ap (λ (b : App). matches_of b words) is in
+    settings ∙ ap settings_by rows

@@ -1,5 +1,5 @@
 -- What words ask for.
-use Rattle.std.specs.Prelude.{ℕ, ◌<◌, ◌≤◌, ◌^◌, List, Option, Some, None, codes, if◌then◌else◌, unwrap_or}
+use Rattle.std.specs.Prelude.{Bool, ℕ, ◌<◌, ◌≤◌, ◌^◌, List, Option, Some, None, codes, if◌then◌else◌, unwrap_or}
 use Rattle.std.specs.Option.{option_map_or}
 use Rattle.std.specs.Str.{bytes_eq}
 use Rattle.std.specs.Str.Parse.{digits_value, without_leading_plus}
@@ -7,6 +7,7 @@ use Rattle.clap.specs.Walk.{is_empty}
 use Rattle.clap.specs.Words.{Row, Text, fault_of, first_of, matches_of, one_of}
 use Rattle.speak_words.specs.Options.{command}
 use Rattle.speak_words.specs.declared.asked.Mode.{Mode}
+use Rattle.speak_words.specs.declared.asked.Settings.{Settings}
 use Rattle.speak_words.specs.declared.asked.Mode.TheVariants.{Speak, Classify, Check, Sample}
 
 -- what a run does: a setup's name, or how many lines from which state
@@ -46,6 +47,25 @@ job_by rows = job
 -- the words, of which the first is the program's name: clap takes them, and they ask for this job
 unfoldable pub job_for : List Text → Option Job
 job_for words = if is_empty (fault_of command words) then job_by (matches_of command words) else None
+
+-- a flag is given
+abbrev pub is_given : Text → List Row → Bool
+is_given name rows = bytes_eq (unwrap_or (first_of name rows) (codes "false")) (codes "true")
+
+-- how the job is to be done, by what clap found for each option
+abbrev pub settings_by : List Row → Settings
+settings_by rows = record {
+  places = option_map_or number (one_of (codes "places") rows) 256;
+  report = is_given (codes "report") rows;
+}
+
+-- how it is to be done by words that clap takes
+unfoldable pub settings_for : List Text → Settings
+settings_for words = settings_by (matches_of command words)
+
+-- the bounds of the number of places
+abbrev pub HasPlaces : Settings → Type 0
+HasPlaces settings = (1 ≤ settings.places) × (settings.places ≤ 4096)
 
 -- the bounds of what a mode needs
 abbrev pub InBounds : Mode → Type 0

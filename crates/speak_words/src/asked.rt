@@ -4,6 +4,16 @@
 #[derive(Clone, Copy, Debug, Drop)]
 pub struct Asked<'a> {
     pub mode: Mode<'a>,
+    pub settings: Settings,
+}
+
+/// How a run goes about it. What is said of a line doesn't depend on it.
+#[derive(Clone, Copy, Debug, PartialEq, Eq)]
+pub struct Settings {
+    /// How many expansions are kept at once: 1 to 4,096.
+    pub places: u32,
+    /// Whether it is told what was looked up for each line.
+    pub report: bool,
 }
 
 /// What a run does, with what it needs for it.

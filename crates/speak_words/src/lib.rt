@@ -9,5 +9,5 @@ mod numbers;
 mod options;
 mod reading;
 
-pub use asked::{Asked, Mode};
+pub use asked::{Asked, Mode, Settings};
 pub use reading::read_words;

@@ -25,6 +25,14 @@ pub(crate) const START: NumberOption = NumberOption {
     default: 1,
 };
 
+/// How many places the table of expansions has.
+pub(crate) const PLACES: NumberOption = NumberOption {
+    name: "places",
+    least: 1,
+    most: 4096,
+    default: 256,
+};
+
 /// An option whose value is a number, from the least to the most.
 pub(crate) struct NumberOption {
     pub(crate) name: &'static str,

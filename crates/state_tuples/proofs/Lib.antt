@@ -11,5 +11,6 @@ pub mod Lists
 pub mod Staged
 pub mod Arranged
 pub mod FirstPart
+pub mod OnePart
 pub mod InCodes
 pub mod CodedExpansions

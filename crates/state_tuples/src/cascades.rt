@@ -104,6 +104,14 @@ impl Cascade {
         }
     }
 
+    /// The number of states of the part at a place.
+    pub(crate) fn state_count(&self, place: usize) -> usize
+        requires place { place < length self.now.parts }
+        ensures { result ≡ length (get_or self.now.parts place no_part).arcs }
+    {
+        self.parts[place].len()
+    }
+
     /// The arcs of the part at a place, at one of its states.
     pub(crate) fn row(&self, place: usize, state: usize) -> &[Arc]
         requires place { place < length self.now.parts }

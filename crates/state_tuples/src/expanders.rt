@@ -2,8 +2,9 @@
 
 ghost use Rattle.std.specs.Prelude.{◌≡◌, ◌≤◌, All, IfOk, OnErr, OnOk, false, []};
 ghost use Rattle.state_tuples.specs.Cascades.{Cascaded, IsSound};
-ghost use Rattle.state_tuples.specs.Calls.{AreArcsOn, CannotRead, HaveOwnNumbers, IsCounted, IsEndOf, IsKnown};
+ghost use Rattle.state_tuples.specs.Calls.{AreArcsOn, CannotRead, GoesOnward, HaveOwnNumbers, IsCounted, IsEndOf, IsKnown};
 
+use crate::onward::Onward;
 use crate::tuples::{Tuple, TupleArc};
 use std::alloc::AllocError;
 
@@ -54,6 +55,10 @@ pub trait Expander {
     /// that is counted, and takes no memory.
     fn may_read(&self, t: &Tuple, label: u16) -> bool
         ensures none { result ≡ false → CannotRead (cascades self.now) t.now label };
+
+    /// What is known of how the tuple goes on. It is no call that is counted, and takes no memory.
+    fn onward(&self, t: &Tuple) -> Onward
+        ensures told { GoesOnward (cascades self.now) t.now result };
 
     ghost sound: { (x : Self) → is_ready x → All IsSound (cascades x) };
 

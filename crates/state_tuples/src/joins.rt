@@ -1,9 +1,10 @@
 // How one part more joins the moves of the parts before it.
 
-ghost use Rattle.std.specs.Prelude.{◌≡◌, ◌==◌, ◌+◌, ◌<◌, ◌≤◌, ◌^◌, ◌++◌, IsTrue, OnOk, length};
+ghost use Rattle.std.specs.Prelude.{◌≡◌, ◌==◌, ◌+◌, ◌<◌, ◌≤◌, ◌^◌, ◌++◌, IsTrue, OnOk, Some, length};
 ghost use Rattle.std.specs.List.{filter_map};
 ghost use Rattle.std.specs.List.Sorted.{IsNonDecreasingBy};
 ghost use Rattle.state_tuples.specs.Positions.{filter_at, most_parts};
+ghost use Rattle.state_tuples.specs.declared.joins.Asked.TheVariants.{Every};
 ghost use Rattle.state_tuples.specs.Stages.{all_entered, alone_arc, asks, entering};
 
 use crate::tuples::{MOST_PARTS, States, Tuple, TupleArc};
@@ -91,15 +92,22 @@ fn one_alone(y: &Arc, asked: Asked) -> Option<TupleArc>
     if !is_asked(asked, y.input) {
         return None;
     }
+    Some(move_alone(y))
+}
+
+/// An arc of the first part as a move, with all other parts at 0.
+pub(crate) fn move_alone(y: &Arc) -> TupleArc
+    ensures { Some result ≡ alone_arc Every y.now }
+{
     let mut states = [0; MOST_PARTS];
     states[0] = y.next;
-    Some(TupleArc {
+    TupleArc {
         input: y.input,
         output: y.output,
         weight: y.weight,
         filters: 0,
         states,
-    })
+    }
 }
 
 /// How a part joins the moves of those before it. Parts are counted from 0.

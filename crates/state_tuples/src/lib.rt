@@ -4,7 +4,8 @@
 //! each part, and a filter before each part but the first (`compose_filter` says how two move together). [`Cascade::expand`] gives
 //! all moves from a tuple in order. What a search asks for is the trait [`Expander`]: the moves that read one label, and the final
 //! weight. [`Private`] answers it anew at each call, without the other moves, and keeps only the memory for them. An expander also tells, without a
-//! call, that a tuple can't read a label next ([`Expander::may_read`]); a cascade knows it where it was made by [`Cascade::looking_ahead`].
+//! call, that a tuple can't read a label next ([`Expander::may_read`]); a cascade knows it where it was made by [`Cascade::looking_ahead`]. And it
+//! tells that a tuple has one way on only, or none that reads nothing ([`Expander::onward`]); a cascade of one part knows it.
 //!
 //! An expansion can be kept as a code, a list of words that names its tuple: [`encode`] writes it, and [`decode`], [`end_in`] and [`arcs_in`] read it.
 //!
@@ -23,6 +24,7 @@ mod expanders;
 mod expanding;
 mod joins;
 mod laws;
+mod onward;
 mod privates;
 mod sharing;
 mod stages;
@@ -34,5 +36,6 @@ pub use decoding::{arcs_in, decode, end_in};
 pub use encoding::{encode, encode_arcs, key_of};
 pub use expanders::Expander;
 pub use laws::cascades_read_their_parts;
+pub use onward::Onward;
 pub use privates::Private;
 pub use tuples::{Expansion, MOST_PARTS, States, Tuple, TupleArc};

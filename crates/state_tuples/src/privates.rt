@@ -5,6 +5,7 @@ ghost use Rattle.std.specs.Prelude.{◌≡◌};
 use crate::cascades::Cascade;
 use crate::expanders::Expander;
 use crate::joins::Asked;
+use crate::onward::Onward;
 use crate::stages::{end_at, put_moves};
 use crate::tuples::{Tuple, TupleArc};
 use std::alloc::{AllocError, Global};
@@ -79,6 +80,10 @@ impl<'a> Expander for Private<'a> {
 
     fn may_read(&self, t: &Tuple, label: u16) -> bool {
         self.cascade.may_read(t, label)
+    }
+
+    fn onward(&self, t: &Tuple) -> Onward {
+        self.cascade.onward(t)
     }
 
     ghost sound = { sound };

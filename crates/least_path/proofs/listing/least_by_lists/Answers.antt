@@ -19,6 +19,7 @@ use Rattle.least_path.specs.Growths.{Steps}
 use Rattle.least_path.specs.Marks.{mark_of}
 use Rattle.least_path.specs.Keeps.{IsEdge}
 use Rattle.least_path.specs.Ending.{Every}
+use Rattle.least_path.specs.Passing.{Stays}
 use Rattle.least_path.specs.Relaxing.{Gained, GainedFrom, IsBest}
 use Rattle.least_path.proofs.Stops.{stops_later}
 use Rattle.least_path.proofs.Wholes.{byte_small}
@@ -36,10 +37,10 @@ loop-number-init g c =
     let s0 : Relaxed = c.in_ok-search.search in
     let s : Relaxed = c.relax.new.self in
     let none : text_of c.in_ok-search.search.outputs 0 ≡ [] = ap (λ t. text_of t 0) c.in_ok-search.ensures.outputs in
-    let at : Gained Every s0 s 0 [] (IsEdge (At c.args.source.now.start c.args.start.now) 0 []) = subst (λ y. Gained Every c.in_ok-search.search c.relax.new.self 0 y (IsEdge (At c.args.source.now.start c.args.start.now) 0 [])) none (subst (λ q. Gained Every c.in_ok-search.search c.relax.new.self 0 (text_of c.in_ok-search.search.outputs 0) (IsEdge (At q c.args.start.now) 0 [])) c.start.ensures.value c.in_ok-relax.ensures) in
+    let at : Gained Stays Every s0 s 0 [] (IsEdge (At c.args.source.now.start c.args.start.now) 0 []) = subst (λ y. Gained Stays Every c.in_ok-search.search c.relax.new.self 0 y (IsEdge (At c.args.source.now.start c.args.start.now) 0 [])) none (subst (λ q. Gained Stays Every c.in_ok-search.search c.relax.new.self 0 (text_of c.in_ok-search.search.outputs 0) (IsEdge (At q c.args.start.now) 0 [])) c.start.ensures.value c.in_ok-relax.ensures) in
     record {
       sound = c.start.ensures.sound;
-      runs = λ d h. runs_start c.args.source.now d c.start.ensures.sound (closed_of (g.X.Expander.cascades c.args.x.now) c.args.start.now (g.met.X.Expander.sound c.args.x.now c.requires.ready) d h) s0 s c.in_ok-search.ensures.nodes (subst (λ t. Gained Every c.in_ok-search.search c.relax.new.self 0 [] (IsEdge (At c.args.source.now.start t) 0 [])) h.first at) c.in_ok-search.ensures.marks;
+      runs = λ d h. runs_start c.args.source.now d c.start.ensures.sound (closed_of (g.X.Expander.cascades c.args.x.now) c.args.start.now (g.met.X.Expander.sound c.args.x.now c.requires.ready) d h) s0 s c.in_ok-search.ensures.nodes (subst (λ t. Gained Stays Every c.in_ok-search.search c.relax.new.self 0 [] (IsEdge (At c.args.source.now.start t) 0 [])) h.first at) c.in_ok-search.ensures.marks;
       ready = c.requires.ready;
       on = g.met.X.Expander.on_self c.args.x.now;
     }
@@ -95,16 +96,16 @@ spread-requires g c =
     let waits : mark_of c.loop-number.search.marks.items c.in-Some.number ≡ Waiting c.in-Waiting.way = get_or_default c.loop-number.search.marks.items c.in-Some.number Unmet c.index.result.now marked ∙ sym c.index.ensures ∙ c.in-Waiting.is in
     let at : slice_get c.loop-number.search.nodes c.in-Some.number ≡ Some (At c.in-At.state c.in-At.tuple) = c.node.ensures ∙ ap Some c.in-At.is in
     let known = taken_known c.args.source.now st.0 c.loop-number.search c.loop-number.taken (c.loop-number.invariant.runs st.0 st.1) c.in-Some.number c.take.new.self c.in-Some.ensures c.in-Waiting.way waits c.in-At.state c.in-At.tuple at in
-    let light : c.in-Waiting.way.weight ≤ taken * 2 ^ 56 = taken_light c.args.source.now st.0 c.loop-number.search c.loop-number.taken (c.loop-number.invariant.runs st.0 st.1) c.in-Some.number c.take.new.self c.in-Some.ensures c.in-Waiting.way waits c.in-At.state c.in-At.tuple at in
-    let short : c.in-Waiting.way.length ≤ taken = taken_short c.args.source.now st.0 c.loop-number.search c.loop-number.taken (c.loop-number.invariant.runs st.0 st.1) c.in-Some.number c.take.new.self c.in-Some.ensures c.in-Waiting.way waits c.in-At.state c.in-At.tuple at in
+    let light : c.in-Waiting.way.weight ≤ taken * (4097 * 2 ^ 56) = taken_light c.args.source.now st.0 c.loop-number.search c.loop-number.taken (c.loop-number.invariant.runs st.0 st.1) c.in-Some.number c.take.new.self c.in-Some.ensures c.in-Waiting.way waits c.in-At.state c.in-At.tuple at in
+    let short : c.in-Waiting.way.length ≤ taken * 4097 = taken_short c.args.source.now st.0 c.loop-number.search c.loop-number.taken (c.loop-number.invariant.runs st.0 st.1) c.in-Some.number c.take.new.self c.in-Some.ensures c.in-Waiting.way waits c.in-At.state c.in-At.tuple at in
     record {
       ready = c.loop-number.invariant.ready;
       known = subst (λ cs. IsKnown cs c.in-At.tuple) (sym (g.met.X.Expander.on_stays c.args.x.now c.loop-number.x c.loop-number.invariant.on)) (st.0, st.1.one, known.1);
       state = known.0;
       kept = taken_kept c.args.source.now st.0 c.loop-number.search c.loop-number.taken (c.loop-number.invariant.runs st.0 st.1) c.in-Some.number c.take.new.self c.in-Some.ensures c.in-Waiting.way waits c.in-At.state c.in-At.tuple at;
       from = taken_fits c.args.source.now st.0 c.loop-number.search c.loop-number.taken (c.loop-number.invariant.runs st.0 st.1) c.in-Some.number c.take.new.self c.in-Some.ensures c.in-Waiting.way waits c.in-At.state c.in-At.tuple at;
-      light = omega (arith, light, c.if-taken-most_taken.false, c.loop-number.auto.taken-fits);
-      short = omega (arith, short, c.if-taken-most_taken.false, c.loop-number.auto.taken-fits);
+      light = omega (arith, light, c.if-taken-most_taken.false, c.most_taken.ensures);
+      short = omega (arith, short, c.if-taken-most_taken.false, c.most_taken.ensures);
     }
 
 pub loop-number-preserved : goal.loop-number-preserved

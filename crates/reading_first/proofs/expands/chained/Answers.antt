@@ -1,6 +1,7 @@
 use Rattle.std.proofs.Common.{◌≡◌, ◌<◌, length, get_or, Some, arith}
 use Rattle.std.specs.Prelude.{slice_get}
 use Rattle.std.proofs.lemmas.Option.{slice_get_within, slice_get-get_or}
+use Rattle.state_table.proofs.Numbering.{keeps_trans, numbers_keeps}
 use Rattle.reading_first.specs.declared.expands.Way.{Way}
 use Rattle.reading_first.specs.Expanding.{standing}
 use Rattle.reading_first.proofs.Chains.{fit_added, left_first, left_same, left_more, left_last}
@@ -8,14 +9,14 @@ use Rattle.reading_first.proofs.expands.chained.Goals as goal
 
 pub loop-at-init : goal.loop-at-init
 loop-at-init c =
-    let add = c.in_ok-next.ensures.added in
+    let add = c.in_ok-next.ensures.number in
     record {
       left = λ u told. left_first c.args.ways.now c.number.new.self c.args.from c.args.last c.in_ok-next.next c.args.to u add.stored told;
       small = c.requires.label;
       within = c.requires.within;
       there = slice_get_within c.number.new.self c.in_ok-next.next c.args.to add.stored;
-      keeps = add.kept;
-      fit = λ m fit to. fit_added m c.args.parts.now c.number.new.self c.args.to c.in_ok-next.next fit add (to (length c.number.new.self));
+      keeps = numbers_keeps add;
+      fit = λ m fit to. fit_added m c.args.parts.now c.number.new.self c.args.to c.in_ok-next.next fit c.number.ensures.distinct add (to (length c.number.new.self));
     }
 
 pub loop-at-smaller-in_ok-next-2 : goal.loop-at-smaller-in_ok-next-2
@@ -46,7 +47,7 @@ loop-at-preserved-in_ok-next-2 c =
       small = c.requires.backwards.labels at w there;
       within = omega arith;
       there = e.within;
-      keeps = λ n p h. e.keeps n p (i.keeps n p h);
+      keeps = keeps_trans i.keeps e.keeps;
       fit = λ m fit to. e.fit m (i.fit m fit to);
     }
 

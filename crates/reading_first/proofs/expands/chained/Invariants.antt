@@ -1,7 +1,8 @@
 use Rattle.std.proofs.Common.{◌<◌, ◌≤◌, ◌++◌, ℕ, List, [], length}
 use Rattle.weighted_relations.specs.Graphs.{label}
 use Rattle.weighted_relations.specs.Machines.{Machine}
-use Rattle.reading_first.specs.Shapes.{Fit, Keeps, PartFits}
+use Rattle.state_table.specs.Numbers.{Keeps}
+use Rattle.reading_first.specs.Shapes.{Fit, PartFits}
 use Rattle.reading_first.specs.Expanding.{TextOf}
 use Rattle.reading_first.proofs.Chains.{Left}
 use Rattle.reading_first.proofs.expands.chained.Given as goal

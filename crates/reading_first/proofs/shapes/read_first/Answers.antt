@@ -16,8 +16,8 @@ loop-alloc-preserved c =
     let b = c.loop-alloc.built in
     let n = c.len-in-loop-alloc-2.result in
     let row = c.in-Some.row in
-    let made : RowMade m old new c.get-part.result row.arcs.items row.last = subst (λ found. IfSome found (λ r. RowMade m old new c.get-part.result r.arcs.items r.last)) c.in-Some.is c.in_ok-row.ensures.row in
-    let more = more_so_far m c.in_ok-start.start old new b n c.get-part.result row.arcs.items row.last c.loop-alloc.invariant.built c.len-in-loop-alloc-2.ensures.count c.get-part.ensures.value made in
+    let made : RowMade m old new c.key-part.result.now row.arcs.items row.last = subst (λ found. IfSome found (λ r. RowMade m old new c.key-part.result.now r.arcs.items r.last)) c.in-Some.is c.in_ok-row.ensures.row in
+    let more = more_so_far m c.in_ok-start.start old new b n c.key-part.result.now row.arcs.items row.last c.loop-alloc.invariant.built c.len-in-loop-alloc-2.ensures.count c.key-part.ensures.value made in
     let count : length (b.arcs ++ row.arcs.items ∷ []) ≤ length new = more.count in
     let pushed : length c.push.new.self.arcs ≡ length (b.arcs ++ row.arcs.items ∷ []) = ap (λ (b : States). length b.arcs) c.in_ok-push.ensures.value in
     record {

@@ -8,7 +8,7 @@ use Rattle.reading_first.proofs.shapes.row_at.Goals as goal
 pub returns-in-Some-clause-row : goal.returns-in-Some-clause-row
 returns-in-Some-clause-row c =
     let x : Arc = record { input = 0; output = c.in-Some.arc.output; weight = c.in-Some.arc.weight; next = c.in_ok-next.next } in
-    stays_made c.args.a.now c.args.parts.now c.number.new.self c.args.q c.in-Some.arc c.in_ok-next.next c.push.new.self.items c.requires.sound c.requires.fit c.in-Some.ensures.forced c.in_ok-next.ensures.added
+    stays_made c.args.a.now c.args.parts.now c.number.new.self c.args.q c.in-Some.arc c.in_ok-next.next c.push.new.self.items c.requires.sound c.requires.fit c.in-Some.ensures.forced c.number.ensures.distinct c.in_ok-next.ensures.number
     (c.in_ok-push.ensures.items ∙ ap (λ (l : List Arc). l ++ x ∷ []) c.new-arcs.ensures.items)
 
 pub run-requires : goal.run-requires

@@ -1,4 +1,4 @@
-use Rattle.std.proofs.Common.{◌≡◌, List, map, ap}
+use Rattle.std.proofs.Common.{List, map, ap}
 use Rattle.core_expressions.specs.Views.{expression_of}
 use Rattle.core_expressions.specs.declared.expressions.Expr.{Expr}
 use Rattle.speak_setup.specs.Setups.{names_of}
@@ -11,8 +11,10 @@ use Rattle.speak_core.proofs.loading.build.Goals as goal
 
 pub returns-in-Ok-clause-builds : goal.returns-in-Ok-clause-builds
 returns-in-Ok-clause-builds c =
+    rw c.loaded.ensures.speaker (
     built c.args.mode (classifier_of c.in-Ok.normaliser) (verbaliser_of c.in-Ok.normaliser) _ _ _ _ (ap (λ (l : List Expr). map expression_of l) c.deref.ensures.value) (ap (λ (l : List Expr). map expression_of l) c.deref-2.ensures.value)
     c.in-Ok.ensures.classifier c.in-Ok.ensures.verbaliser c.in-Ok.ensures.complete
+    )
 
 pub returns-in-Err-RewritesEmpty-clause-builds : goal.returns-in-Err-RewritesEmpty-clause-builds
 returns-in-Err-RewritesEmpty-clause-builds c =

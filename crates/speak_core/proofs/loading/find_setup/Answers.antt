@@ -1,4 +1,4 @@
-use Rattle.std.proofs.Common.{◌≡◌, ◌∙◌, List, Some, Ok, Err, Option, Result, IfSome, Vec, ℕ, Global, option_map, ap, subst, sym}
+use Rattle.std.proofs.Common.{◌≡◌, ◌∙◌, Some, Ok, Err, Option, Result, IfSome, Vec, ℕ, Global, option_map, ap, subst, sym}
 use Rattle.std.proofs.lemmas.Option.{IfSome_then}
 use Rattle.norm_base.specs.Files.{file_of}
 use Rattle.speak_setup.specs.Setups.{SetupNames, SetupText, names_of, outcome_of}

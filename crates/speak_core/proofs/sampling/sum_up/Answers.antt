@@ -1,5 +1,4 @@
-use Rattle.std.proofs.Common.{◌≤◌, ◌<◌, ◌+◌, ◌^◌, ◌∙◌, length, ap, rules, arith}
-use Rattle.std.proofs.lemmas.Grind.{common_steps}
+use Rattle.std.proofs.Common.{◌≤◌, ◌+◌, ◌^◌, ◌∙◌, length, ap, refl, arith}
 use Rattle.speak_core.specs.Parts.{says_of}
 use Rattle.speak_core.proofs.Said.{speaker_once}
 use Rattle.speak_core.proofs.Sums.{batch_count, summed_all, summed_count, summed_cut, summed_front, summed_more, summed_none}
@@ -7,17 +6,16 @@ use Rattle.speak_core.proofs.sampling.sum_up.Goals as goal
 
 pub loop-done-init : goal.loop-done-init
 loop-done-init g c =
-    let below : c.args.sample.now.start < 2 ^ 31 = first_of (search rules, grind (arith, common_steps)) in
-    (summed_none (says_of c.args.sample.now.speaker) _ _ _ _ c.new-summary.ensures, omega arith, below)
+    (summed_none (says_of c.args.speaker.now) _ _ _ _ _ _ c.new-summary.ensures, omega arith, c.requires.start, refl, c.requires.ready)
 
 pub returns-in_err-lines-clause-front : goal.returns-in_err-lines-clause-front
-returns-in_err-lines-clause-front g c = summed_front (says_of c.args.sample.now.speaker) _ _ _ _ _ _ _ _ c.loop-done.invariant.0 (speaker_once c.args.sample.now.speaker) c.args.sample.now.count c.loop-done.invariant.1
+returns-in_err-lines-clause-front g c = summed_front (says_of c.args.speaker.now) _ _ _ _ _ _ _ _ _ _ _ c.loop-done.invariant.0 (speaker_once c.args.speaker.now) c.args.count c.loop-done.invariant.1
 
 pub sum_batch-requires-clause-room : goal.sum_batch-requires-clause-room
 sum_batch-requires-clause-room g c =
-    let counted = summed_count (says_of c.args.sample.now.speaker) _ _ _ _ _ _ _ _ c.loop-done.invariant.0 in
+    let counted = summed_count (says_of c.args.speaker.now) _ _ _ _ _ _ _ _ _ _ _ c.loop-done.invariant.0 in
     let size = c.min-size.ensures in
-    let lines = ap length c.deref.ensures.value ∙ batch_count (says_of c.args.sample.now.speaker) _ _ _ c.in_ok-lines.ensures.lines in
+    let lines = ap length c.deref.ensures.value ∙ batch_count (says_of c.args.speaker.now) _ _ _ c.in_ok-lines.ensures.lines in
     let fits = c.loop-done.invariant.1 in
     let less = c.loop-done-test.true in
     let room : c.loop-done.summary.lines + length c.deref.result.now ≤ 2 ^ 32 = omega (arith, counted, size, lines, fits, less) in
@@ -28,23 +26,25 @@ returns-in_err-sum_batch-clause-front g c =
     let size = c.min-size.ensures in
     let first = c.from-first.ensures in
     let fits = c.loop-done.invariant.1 in
-    summed_cut (says_of c.args.sample.now.speaker) _ _ _ _ _ _ _ _ c.loop-done.invariant.0 (speaker_once c.args.sample.now.speaker) c.args.sample.now.count c.min-size.result (c.from-first.result + 1) _ _ (omega (arith, size, fits)) c.in_ok-lines.ensures.lines (omega (arith, first)) (rw c.deref.ensures.value at c.sum_batch.ensures.front)
+    summed_cut (says_of c.args.speaker.now) _ _ _ _ _ _ _ _ _ _ _ c.loop-done.invariant.0 (speaker_once c.args.speaker.now) c.args.count c.min-size.result (c.from-first.result + 1) _ _ (omega (arith, size, fits)) c.in_ok-lines.ensures.lines (omega (arith, first)) (rw (c.deref.ensures.value, c.loop-done.invariant.3) at c.sum_batch.ensures.front)
 
 pub loop-done-preserved : goal.loop-done-preserved
 loop-done-preserved g c =
     let size = c.min-size.ensures in
     let first = c.from-first.ensures in
     let fits = c.loop-done.invariant.1 in (
-      summed_more (says_of c.args.sample.now.speaker) _ _ _ _ _ _ _ _ c.loop-done.invariant.0 c.min-size.result (c.from-first.result + 1) c.in_ok-lines.next _ _ _ _ c.in_ok-lines.ensures.lines c.in_ok-lines.ensures.next (omega (arith, first)) (rw c.deref.ensures.value at c.in_ok-sum_batch.ensures.done) c.in_ok-sum_batch.ensures.counts,
+      summed_more (says_of c.args.speaker.now) _ _ _ _ _ _ _ _ _ _ _ c.loop-done.invariant.0 _ c.min-size.result (c.from-first.result + 1) c.in_ok-lines.next _ _ _ _ c.in_ok-lines.ensures.lines c.in_ok-lines.ensures.next (omega (arith, first)) (rw (c.deref.ensures.value, c.loop-done.invariant.3) at c.in_ok-sum_batch.ensures.done) c.in_ok-sum_batch.ensures.counts,
       omega (arith, size, fits),
       c.in_ok-lines.ensures.below,
+      c.sum_batch.ensures.wanted ∙ c.loop-done.invariant.3,
+      c.sum_batch.ensures.ready,
     )
 
 pub returns-clause-front : goal.returns-clause-front
-returns-clause-front g c = summed_front (says_of c.args.sample.now.speaker) _ _ _ _ _ _ _ _ c.loop-done.invariant.0 (speaker_once c.args.sample.now.speaker) c.args.sample.now.count c.loop-done.invariant.1
+returns-clause-front g c = summed_front (says_of c.args.speaker.now) _ _ _ _ _ _ _ _ _ _ _ c.loop-done.invariant.0 (speaker_once c.args.speaker.now) c.args.count c.loop-done.invariant.1
 
 pub returns-clause-done : goal.returns-clause-done
 returns-clause-done g c =
     let fits = c.loop-done.invariant.1 in
     let end = c.loop-done-test.false in
-    summed_all (says_of c.args.sample.now.speaker) _ _ _ _ _ _ _ _ c.loop-done.invariant.0 c.args.sample.now.count (omega (arith, fits, end))
+    summed_all (says_of c.args.speaker.now) _ _ _ _ _ _ _ _ _ _ _ c.loop-done.invariant.0 c.args.count (omega (arith, fits, end))

@@ -1,11 +1,14 @@
-use Rattle.std.proofs.Common.{length}
+use Rattle.std.proofs.Common.{◌≡◌, length}
+use Rattle.normaliser.specs.Searches.{IsCallerOf}
 use Rattle.speak_core.specs.Parts.{says_of}
 use Rattle.speak_core.proofs.SoFar.{SoFar}
 use Rattle.speak_core.proofs.speaking.speak_lines.Given as goal
 
 abbrev pub invariant-loop-rest : goal.invariant-loop-rest
 invariant-loop-rest g l =
-    SoFar (says_of l.speaker) l.text l.rest l.number l.is_read (g.O.Sink.held l.initial.out) (g.O.Sink.held l.out) (g.E.Sink.held l.initial.err) (g.E.Sink.held l.err)
+    IsCallerOf l.speaker.normaliser l.caller
+    × (l.report.is_wanted ≡ l.initial.report.is_wanted)
+    × SoFar (says_of l.speaker) l.initial.report.is_wanted l.initial.report.total l.report.total l.text l.rest l.number l.is_read (g.O.Sink.held l.initial.out) (g.O.Sink.held l.out) (g.E.Sink.held l.initial.err) (g.E.Sink.held l.err)
     (g.O.Sink.faults l.initial.out) (g.O.Sink.faults l.out) (g.E.Sink.faults l.initial.err) (g.E.Sink.faults l.err)
 
 abbrev pub decreases-loop-rest : goal.decreases-loop-rest

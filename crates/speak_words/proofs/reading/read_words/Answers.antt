@@ -1,7 +1,7 @@
 use Rattle.std.proofs.Common.{◌∙◌, map}
 use Rattle.std.specs.String.{string_bytes}
 use Rattle.speak_words.proofs.Built.{HasNumbers, numbers_found}
-use Rattle.speak_words.proofs.Jobs.{job-refused, job-taken}
+use Rattle.speak_words.proofs.Jobs.{job-refused, job-taken, settings-taken}
 use Rattle.speak_words.proofs.reading.read_words.Goals as goal
 
 pub asked-requires-clause-count : goal.asked-requires-clause-count
@@ -17,6 +17,17 @@ asked-requires-clause-start c =
     numbers_found c.in_ok-command.command c.try_get_matches_from_mut.new.self c.in-Ok.matches c.in_ok-command.ensures
     c.in-Ok.ensures.after c.in-Ok.ensures.fails c.in-Ok.ensures.ok.1 in
     numbers.start
+
+pub asked-requires-clause-places : goal.asked-requires-clause-places
+asked-requires-clause-places c =
+    let numbers : HasNumbers c.in-Ok.matches =
+    numbers_found c.in_ok-command.command c.try_get_matches_from_mut.new.self c.in-Ok.matches c.in_ok-command.ensures
+    c.in-Ok.ensures.after c.in-Ok.ensures.fails c.in-Ok.ensures.ok.1 in
+    numbers.places
+
+pub returns-in-Ok-clause-settings : goal.returns-in-Ok-clause-settings
+returns-in-Ok-clause-settings c =
+    settings-taken _ (map string_bytes c.args.words.now) c.in-Ok.matches c.asked.result c.in_ok-command.ensures c.in-Ok.ensures.ok.2 c.asked.ensures.settings
 
 pub returns-in-Ok-clause-asked : goal.returns-in-Ok-clause-asked
 returns-in-Ok-clause-asked c =

@@ -1,6 +1,6 @@
 use Rattle.std.proofs.Common.{◌≡◌, ap, subst, Some}
 use Rattle.std.specs.Prelude.{slice_get}
-use Rattle.field_orders.specs.Sources.{Source, entry_of}
+use Rattle.field_orders.specs.Sources.{Source}
 use Rattle.field_orders.proofs.Beginnings.{not_final}
 use Rattle.field_orders.proofs.sources.OrderSource.is_final.Goals as goal
 
@@ -8,5 +8,5 @@ pub returns-in_default : goal.returns-in_default
 returns-in_default c = record {
   last = λ r m.
       let s : c.self.inside.states ≡ c.args.self.now.states = ap (λ (z : Source). z.states) c.self.view_is in
-      not_final c.args.self.now.table c.args.self.now.states c.args.state c.get.result.now c.in_default.not-End (subst (λ z. slice_get z c.args.state ≡ Some (entry_of c.get.result.now)) s c.get.ensures.value) m;
+      not_final c.args.self.now.table c.args.self.now.states c.args.state c.key.result.now c.in_default.not-End (subst (λ z. slice_get z c.args.state ≡ Some c.key.result.now) s c.key.ensures.value) m;
 }

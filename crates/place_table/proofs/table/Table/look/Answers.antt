@@ -39,10 +39,13 @@ returns-in-Holding-clause-look g c = let f = c.in-Holding.ensures.result in let 
 
 pub returns-in-Absent-clause-alone : goal.returns-in-Absent-clause-alone
 returns-in-Absent-clause-alone g c alone = let f = c.in-Absent.ensures.result in let v = view_of c.args.seat.now in let key : List ℕ = c.args.key.now in
-    absent_alone (words_left v) key (ways key (places_of c.args.self.now.words)) c.find_into.new.into c.in-Absent.found c.in-Absent.count f.0 (search rules) f.1
+    absent_alone (words_left v) key (ways key (places_of c.args.self.now.words)) c.find_into.new.into c.in-Absent.found c.in-Absent.count f.0 (search rules) f.1.0
     (added_in_turn v (view_of c.find_into.new.seat) f.0 f.2 c.find_into.new.seat.in_turn alone) (c.in-Absent.ensures.free alone)
 
 pub returns-in-Holding-clause-alone : goal.returns-in-Holding-clause-alone
 returns-in-Holding-clause-alone g c alone = let l = returns-in-Holding-clause-look g c in let v = view_of c.args.seat.now in let key : List ℕ = c.args.key.now in
     shown_alone (words_left v) key (ways key (places_of c.args.self.now.words)) c.copy_rest.new.into l.1.0 c.copy_rest.result l.0 (search rules) l.1.1
     (added_in_turn v (view_of c.copy_rest.new.seat) l.0 l.2 c.copy_rest.new.seat.in_turn alone)
+
+pub returns-in-Absent-clause-look : goal.returns-in-Absent-clause-look
+returns-in-Absent-clause-look g c = let f = c.in-Absent.ensures.result in (f.0, f.1.0, f.2)

@@ -5,7 +5,7 @@ use Rattle.weighted_relations.specs.Graphs.{label}
 use Rattle.reading_first.specs.declared.parts.Part.TheVariants.{At}
 use Rattle.reading_first.specs.declared.expands.Way.{Way}
 use Rattle.reading_first.specs.Expanding.{Growing, Expanding, TextOf, Written}
-use Rattle.reading_first.proofs.Keys.{pushed_kept}
+use Rattle.state_table.proofs.Numbering.{keeps_push}
 use Rattle.reading_first.proofs.Following.{push_way}
 use Rattle.reading_first.proofs.Steps.{way_there, arc_there, nowhere, reading_step}
 use Rattle.reading_first.proofs.expands.Expansion.follow.Goals as goal
@@ -32,7 +32,7 @@ overflow_add-weight c =
 pub returns-then-arc-eq0-clause-kept : goal.returns-then-arc-eq0-clause-kept
 returns-then-arc-eq0-clause-kept c k w h =
     let there = subst (λ (x : Growing). slice_get x.ways k ≡ Some w) (sym c.self.view_is) h in
-    subst (λ (ws : List Way). slice_get ws k ≡ Some w) (sym c.in_ok-push.ensures.items) (pushed_kept c.self.inside.ways.items _ w k there)
+    subst (λ (ws : List Way). slice_get ws k ≡ Some w) (sym c.in_ok-push.ensures.items) ((keeps_push c.self.inside.ways.items _).kept k w there)
 
 pub returns-then-arc-eq0-clause-expanding : goal.returns-then-arc-eq0-clause-expanding
 returns-then-arc-eq0-clause-expanding c t =

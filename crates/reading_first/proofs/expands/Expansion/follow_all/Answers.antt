@@ -1,5 +1,6 @@
 use Rattle.std.proofs.Common.{refl, arith}
 use Rattle.std.proofs.lemmas.Option.{slice_get-get_or}
+use Rattle.state_table.proofs.Numbering.{keeps_refl}
 use Rattle.reading_first.specs.Expanding.{standing}
 use Rattle.reading_first.proofs.Steps.{way_there}
 use Rattle.reading_first.proofs.expands.Expansion.follow_all.Goals as goal
@@ -13,5 +14,5 @@ loop-j-init c = record {
   there = slice_get-get_or c.args.self.now.ways c.args.at (standing 0) c.requires.within;
   more = omega arith;
   same = refl;
-  keeps = λ i p h. h;
+  keeps = keeps_refl c.args.parts.now;
 }

@@ -1,6 +1,6 @@
 use Rattle.std.proofs.Common.{◌≡◌, ◌≤◌, length, Some}
 use Rattle.std.specs.Prelude.{slice_get, get_or}
-use Rattle.reading_first.specs.Shapes.{Keeps}
+use Rattle.state_table.specs.Numbers.{Keeps}
 use Rattle.reading_first.specs.Expanding.{Expanding, standing}
 use Rattle.reading_first.proofs.expands.Expansion.follow_all.Given as goal
 

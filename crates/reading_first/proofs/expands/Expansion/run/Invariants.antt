@@ -1,5 +1,5 @@
 use Rattle.std.proofs.Common.{◌≡◌, ◌≤◌, ◌-◌, length}
-use Rattle.reading_first.specs.Shapes.{Keeps}
+use Rattle.state_table.specs.Numbers.{Keeps}
 use Rattle.reading_first.specs.Expanding.{Expanding}
 use Rattle.reading_first.proofs.expands.Expansion.run.Given as goal
 

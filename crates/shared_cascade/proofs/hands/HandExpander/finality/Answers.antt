@@ -1,36 +1,104 @@
-use Rattle.std.specs.Prelude.{take}
-use Rattle.std.proofs.Common.{refl, sym, ap, subst}
-use Rattle.state_tuples.specs.Cascades.{end_of}
-use Rattle.state_tuples.specs.Codes.{IsExpansionCode, key}
-use Rattle.shared_cascade.specs.Callers.{Visited, grammars_of}
+use Rattle.std.specs.Prelude.{◌≡◌, ◌+◌, Some, length}
+use Rattle.std.proofs.Common.{refl, ap, subst, arith}
+use Rattle.state_tuples.specs.Codes.{key}
+use Rattle.shared_cascade.specs.Callers.{FoundFor, MadeFor, MissedFor, Visited, cascades_in, grammars_of, places_in}
+use Rattle.shared_cascade.specs.Episodes.{Episode, Missed}
 use Rattle.shared_cascade.specs.HandLaws.{own_numbers}
-use Rattle.shared_cascade.proofs.Going.{gave_up, goes_on, on_any_error}
-use Rattle.shared_cascade.proofs.Handing.{code_of_it, end_owed}
+use Rattle.shared_cascade.specs.Hands.{ShortEpisode}
+use Rattle.shared_cascade.proofs.Finding.{expanded, whole}
+use Rattle.shared_cascade.proofs.Going.{found_part, found_so, gave_up, goes_on, made_part, missed_part, on_any_error}
+use Rattle.shared_cascade.proofs.Handing.{end_owed}
+use Rattle.shared_cascade.proofs.Keeping.{adds_so, at_rest, readied}
 use Rattle.shared_cascade.proofs.hands.HandExpander.finality.Goals as goal
 
-pub returns-in_err-length-clause-up : goal.returns-in_err-length-clause-up
-returns-in_err-length-clause-up c = on_any_error c.from_residual.result (gave_up c.args.self.now _ (key c.args.t.now) (record { shared = refl; caller = refl }) c.in_err-length.ensures.missed)
-
-pub end_in-requires : goal.end_in-requires
-end_in-requires c =
+pub returns-in_err-visit-clause-ready : goal.returns-in_err-visit-clause-ready
+returns-in_err-visit-clause-ready c =
     let s = c.args.self.now.shared.now in
-    let v = subst (Visited s c.visit.new.caller c.args.t.now) c.in-Code.is c.in_ok-length.ensures.found in
-    let x = subst (IsExpansionCode v.0 c.args.t.now) (ap (take c.in-Code.length) (sym c.deref.ensures)) v.3 in
-    record { known = (c.args.t.now, end_of v.0 c.args.t.now, x.0, code_of_it (grammars_of s) s.numbered c.requires.ready.sound c.args.t.now v.0 v.1 v.2 (take c.in-Code.length c.deref.result.now) x) }
+    readied s c.args.self.now.caller.now _ (MissedFor s c.args.t.now) c.requires.ready c.in_err-visit.ensures.missing (missed_part s c.args.t.now c.args.self.now.caller.now)
 
-pub returns-in-Code-clause-end : goal.returns-in-Code-clause-end
-returns-in-Code-clause-end c =
+pub returns-in_err-visit-clause-up : goal.returns-in_err-visit-clause-up
+returns-in_err-visit-clause-up c =
     let s = c.args.self.now.shared.now in
-    let v = subst (Visited s c.visit.new.caller c.args.t.now) c.in-Code.is c.in_ok-length.ensures.found in
-    let x = subst (IsExpansionCode v.0 c.args.t.now) (ap (take c.in-Code.length) (sym c.deref.ensures)) v.3 in
-    let is = code_of_it (grammars_of s) s.numbered c.requires.ready.sound c.args.t.now v.0 v.1 v.2 (take c.in-Code.length c.deref.result.now) x in
-    end_owed (grammars_of s) s.numbered c.requires.ready.sound c.args.t.now v.0 v.1 v.2 (own_numbers c.args.self.now) c.end_in.result (c.end_in.ensures c.args.t.now (end_of v.0 c.args.t.now) x.0 is)
+    let k = key c.args.t.now in
+    let m = c.in_err-visit.ensures.missing in
+    on_any_error _ (gave_up c.args.self.now _ k (record { shared = refl; caller = refl }) m.before
+    (adds_so c.args.self.now.caller.now c.visit.new.caller (MissedFor s c.args.t.now) (λ o es. Missed (places_in s) k es) (λ o es h. h.1) m.adds))
 
-pub returns-in-Code-clause-on : goal.returns-in-Code-clause-on
-returns-in-Code-clause-on c = goes_on c.args.self.now _ (key c.args.t.now) (record { shared = refl; caller = refl }) c.in_ok-length.ensures.episode
+pub returns-in-Held-clause-end : goal.returns-in-Held-clause-end
+returns-in-Held-clause-end c =
+    let s = c.args.self.now.shared.now in
+    let t = c.args.t.now in
+    let old = c.args.self.now.caller.now in
+    let at = subst (Visited s old c.visit.new.caller t) c.in-Held.is c.in_ok-visit.ensures.visited in
+    let x = expanded s old c.visit.new.caller t c.requires.ready c.requires.known at (λ end arcs. c.take_end.result ≡ end) c.take_end.ensures.end in
+    end_owed (grammars_of s) s.numbered c.requires.ready.sound t x.c x.among x.known (own_numbers c.args.self.now) c.take_end.result x.holds
 
-pub returns-in-Arcs-clause-on : goal.returns-in-Arcs-clause-on
-returns-in-Arcs-clause-on c = goes_on c.args.self.now _ (key c.args.t.now) (record { shared = refl; caller = refl }) c.in_ok-length.ensures.episode
+pub returns-in-Held-clause-ready : goal.returns-in-Held-clause-ready
+returns-in-Held-clause-ready c =
+    let s = c.args.self.now.shared.now in
+    let t = c.args.t.now in
+    let old = c.args.self.now.caller.now in
+    let at = subst (Visited s old c.visit.new.caller t) c.in-Held.is c.in_ok-visit.ensures.visited in
+    let e = c.take_end.ensures in
+    let w = whole s old c.visit.new.caller c.take_end.new.caller t e.left.0 e.left.1 (at_rest s old c.requires.ready) at e.own e.left.3 e.tally e.before in
+    readied s old c.take_end.new.caller (FoundFor s t (28 + length e.left.0)) c.requires.ready w (found_part s t old (28 + length e.left.0))
 
-pub returns-in_err-length-clause-refused : goal.returns-in_err-length-clause-refused
-returns-in_err-length-clause-refused c = on_any_error c.from_residual.result c.in_err-length.ensures.missed
+pub returns-in-Held-clause-on : goal.returns-in-Held-clause-on
+returns-in-Held-clause-on c =
+    let s = c.args.self.now.shared.now in
+    let t = c.args.t.now in
+    let old = c.args.self.now.caller.now in
+    let at = subst (Visited s old c.visit.new.caller t) c.in-Held.is c.in_ok-visit.ensures.visited in
+    let e = c.take_end.ensures in
+    let w = whole s old c.visit.new.caller c.take_end.new.caller t e.left.0 e.left.1 (at_rest s old c.requires.ready) at e.own e.left.3 e.tally e.before in
+    goes_on c.args.self.now _ (key t) (record { shared = refl; caller = refl }) w.before
+    (adds_so old c.take_end.new.caller (FoundFor s t (28 + length e.left.0)) (Episode (cascades_in s) (places_in s) (key t)) (found_so s t (28 + length e.left.0)) w.adds)
+
+pub returns-in-Held-clause-counted : goal.returns-in-Held-clause-counted
+returns-in-Held-clause-counted c =
+    let s = c.args.self.now.shared.now in
+    let t = c.args.t.now in
+    let old = c.args.self.now.caller.now in
+    let at = subst (Visited s old c.visit.new.caller t) c.in-Held.is c.in_ok-visit.ensures.visited in
+    let e = c.take_end.ensures in
+    let w = whole s old c.visit.new.caller c.take_end.new.caller t e.left.0 e.left.1 (at_rest s old c.requires.ready) at e.own e.left.3 e.tally e.before in
+    ap Some w.looks
+
+pub returns-in-Held-clause-episode : goal.returns-in-Held-clause-episode
+returns-in-Held-clause-episode c =
+    let s = c.args.self.now.shared.now in
+    let t = c.args.t.now in
+    let old = c.args.self.now.caller.now in
+    let at = subst (Visited s old c.visit.new.caller t) c.in-Held.is c.in_ok-visit.ensures.visited in
+    let e = c.take_end.ensures in
+    let w = whole s old c.visit.new.caller c.take_end.new.caller t e.left.0 e.left.1 (at_rest s old c.requires.ready) at e.own e.left.3 e.tally e.before in
+    adds_so old c.take_end.new.caller (FoundFor s t (28 + length e.left.0)) (Episode (cascades_in s) (places_in s) (key t)) (found_so s t (28 + length e.left.0)) w.adds
+
+pub returns-in-Held-clause-read : goal.returns-in-Held-clause-read
+returns-in-Held-clause-read c =
+    let s = c.args.self.now.shared.now in
+    let t = c.args.t.now in
+    let old = c.args.self.now.caller.now in
+    let at = subst (Visited s old c.visit.new.caller t) c.in-Held.is c.in_ok-visit.ensures.visited in
+    let e = c.take_end.ensures in
+    let w = whole s old c.visit.new.caller c.take_end.new.caller t e.left.0 e.left.1 (at_rest s old c.requires.ready) at e.own e.left.3 e.tally e.before in
+    adds_so old c.take_end.new.caller (FoundFor s t (28 + length e.left.0)) (ShortEpisode (cascades_in s) (places_in s) (key t) 30)
+    (λ o es h. (found_so s t (28 + length e.left.0) o es h, λ same. omega (arith, h.2, e.left.2))) w.adds
+
+pub returns-in-Made-clause-ready : goal.returns-in-Made-clause-ready
+returns-in-Made-clause-ready c =
+    let s = c.args.self.now.shared.now in
+    let t = c.args.t.now in
+    let old = c.args.self.now.caller.now in
+    let v = subst (Visited s old c.visit.new.caller t) c.in-Made.is c.in_ok-visit.ensures.visited in
+    readied s old c.visit.new.caller (MadeFor s old t) c.requires.ready v.0 (made_part s t old)
+
+pub returns-in-Made-clause-on : goal.returns-in-Made-clause-on
+returns-in-Made-clause-on c =
+    let s = c.args.self.now.shared.now in
+    let t = c.args.t.now in
+    let old = c.args.self.now.caller.now in
+    let v = subst (Visited s old c.visit.new.caller t) c.in-Made.is c.in_ok-visit.ensures.visited in
+    let looked = v.0 in
+    goes_on c.args.self.now _ (key t) (record { shared = refl; caller = refl }) looked.before
+    (adds_so old c.visit.new.caller (MadeFor s old t) (Episode (cascades_in s) (places_in s) (key t)) (λ o es h. h.0) looked.adds)

@@ -32,17 +32,17 @@ returns-in-Wide-clause-published c =
       expansion = (arcs, ordered, ap (λ e. code_of t e arcs) made.4);
       no_room = omega (arith, told.0, told.1);
     } in
-    ([], (wide, refl), same_view (view_of c.args.caller.now.seat) c.requires.ready.idle)
+    ([], (wide, refl), same_view (view_of c.args.caller.now.seat) c.requires.rest.idle)
 
-pub returns-in-Published-clause-ready : goal.returns-in-Published-clause-ready
-returns-in-Published-clause-ready c =
+pub returns-in-Published-clause-rest : goal.returns-in-Published-clause-rest
+returns-in-Published-clause-rest c =
     let p = c.in-Published.ensures.publish in
-    (again c.args.self.now c.args.caller.now _ p.0 0 c.requires.ready c.in-Published.ensures.own p.2 (quiet_publish (way_count (places_in c.args.self.now)) 0 _ _ (Published c.in-Published.field-0) p.0 p.1)).ready
+    (again c.args.self.now c.args.caller.now _ p.0 0 c.requires.rest c.in-Published.ensures.own p.2 (quiet_publish (way_count (places_in c.args.self.now)) 0 _ _ (Published c.in-Published.field-0) p.0 p.1)).rest
 
 pub returns-in-Published-clause-looks : goal.returns-in-Published-clause-looks
 returns-in-Published-clause-looks c =
     let p = c.in-Published.ensures.publish in
-    let x = again c.args.self.now c.args.caller.now (record c.args.caller.now { seat = c.publish.new.seat }) p.0 0 c.requires.ready c.in-Published.ensures.own p.2 (quiet_publish (way_count (places_in c.args.self.now)) 0 _ _ (Published c.in-Published.field-0) p.0 p.1) in
+    let x = again c.args.self.now c.args.caller.now (record c.args.caller.now { seat = c.publish.new.seat }) p.0 0 c.requires.rest c.in-Published.ensures.own p.2 (quiet_publish (way_count (places_in c.args.self.now)) 0 _ _ (Published c.in-Published.field-0) p.0 p.1) in
     let e = x.looks in omega arith
 
 pub returns-in-Published-clause-published : goal.returns-in-Published-clause-published
@@ -59,15 +59,15 @@ returns-in-Published-clause-published c =
     let again = subst (λ k. IsPublish code (ways k (places_in c.args.self.now)) (Published c.in-Published.field-0) p.0) w.own p.1 in
     (p.0, (code, w.right, w.own, (c.in-Published.field-0, again)), p.2)
 
-pub returns-in-NoPlace-clause-ready : goal.returns-in-NoPlace-clause-ready
-returns-in-NoPlace-clause-ready c =
+pub returns-in-NoPlace-clause-rest : goal.returns-in-NoPlace-clause-rest
+returns-in-NoPlace-clause-rest c =
     let p = c.in-NoPlace.ensures.publish in
-    (again c.args.self.now c.args.caller.now _ p.0 0 c.requires.ready c.in-NoPlace.ensures.own p.2 (quiet_publish (way_count (places_in c.args.self.now)) 0 _ _ (NoPlace c.in-NoPlace.field-0 c.in-NoPlace.field-1) p.0 p.1)).ready
+    (again c.args.self.now c.args.caller.now _ p.0 0 c.requires.rest c.in-NoPlace.ensures.own p.2 (quiet_publish (way_count (places_in c.args.self.now)) 0 _ _ (NoPlace c.in-NoPlace.field-0 c.in-NoPlace.field-1) p.0 p.1)).rest
 
 pub returns-in-NoPlace-clause-looks : goal.returns-in-NoPlace-clause-looks
 returns-in-NoPlace-clause-looks c =
     let p = c.in-NoPlace.ensures.publish in
-    let x = again c.args.self.now c.args.caller.now (record c.args.caller.now { seat = c.publish.new.seat }) p.0 0 c.requires.ready c.in-NoPlace.ensures.own p.2 (quiet_publish (way_count (places_in c.args.self.now)) 0 _ _ (NoPlace c.in-NoPlace.field-0 c.in-NoPlace.field-1) p.0 p.1) in
+    let x = again c.args.self.now c.args.caller.now (record c.args.caller.now { seat = c.publish.new.seat }) p.0 0 c.requires.rest c.in-NoPlace.ensures.own p.2 (quiet_publish (way_count (places_in c.args.self.now)) 0 _ _ (NoPlace c.in-NoPlace.field-0 c.in-NoPlace.field-1) p.0 p.1) in
     let e = x.looks in omega arith
 
 pub returns-in-NoPlace-clause-published : goal.returns-in-NoPlace-clause-published

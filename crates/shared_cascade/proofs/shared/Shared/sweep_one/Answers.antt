@@ -9,7 +9,7 @@ returns-in-Done-clause-swept c =
     let p = c.in-Done.ensures.empty in
     let old = c.args.swept.now in
     let was : old.was ≡ old.was + 0 = omega arith in
-    (STATE, one_place c.args.self.now c.args.caller.now _ c.args.place STATE p.0 old _ c.requires.ready c.in-Done.ensures.own p.1 p.2 refl refl was)
+    (STATE, one_place c.args.self.now c.args.caller.now _ c.args.place STATE p.0 old _ c.requires.ready c.in-Done.ensures.own p.1 p.2 refl refl refl was)
 
 pub returns-in-Was-clause-swept : goal.returns-in-Was-clause-swept
 returns-in-Was-clause-swept c =
@@ -18,4 +18,4 @@ returns-in-Was-clause-swept c =
     let old = c.args.swept.now in
     let done = not_taken w old.done p.1.0 in
     let was = not_taken w old.was p.1.0 in
-    (w, one_place c.args.self.now c.args.caller.now _ c.args.place w p.0 old _ c.requires.ready c.in-Was.ensures.own p.1.1 p.2 refl done.0 was.1)
+    (w, one_place c.args.self.now c.args.caller.now _ c.args.place w p.0 old _ c.requires.ready c.in-Was.ensures.own p.1.1 p.2 refl refl done.0 was.1)

@@ -1,5 +1,0 @@
-use Rattle.field_orders.specs.Sources.{RowTo}
-use Rattle.field_orders.proofs.states.States.field_row.Given as goal
-
-abbrev pub invariant-loop-i : goal.invariant-loop-i
-invariant-loop-i l = RowTo l.table l.fn.self l.self l.left l.next l.i l.row.items

@@ -1,0 +1,15 @@
+use Rattle.shared_cascade.specs.Callers.{cascades_in}
+use Rattle.shared_cascade.specs.HandLaws.{own_numbers}
+use Rattle.normaliser.proofs.Searchings.{err_stopped, still_after, writes_bytes}
+use Rattle.normaliser.proofs.searching.least_by.Goals as goal
+
+pub least-requires-clause-bytes : goal.least-requires-clause-bytes
+least-requires-clause-bytes c =
+    let b = c.requires.begins in
+    writes_bytes (cascades_in c.args.hand.now.shared.now) b.0 c.args.start.now b.1 (own_numbers c.args.hand.now) b.2
+
+pub returns-clause-still : goal.returns-clause-still
+returns-clause-still c = still_after _ _ c.least.result c.least.ensures.on c.least.ensures.up
+
+pub returns-clause-stopped : goal.returns-clause-stopped
+returns-clause-stopped c = err_stopped _ _ c.least.result c.least.ensures.up

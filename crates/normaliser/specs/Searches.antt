@@ -1,0 +1,46 @@
+-- What comes into the log of a caller's seat while a line is spoken.
+use Rattle.std.specs.Prelude.{◌≡◌, ◌⊎◌, ℕ, List, ◌++◌, Result, Ok, Err}
+use Rattle.place_words.specs.declared.view.Entry.{Entry}
+use Rattle.shared_cascade.specs.Callers.{Adds, IsNew, IsReady, cascades_in, log_of, places_in}
+use Rattle.shared_cascade.specs.Episodes.{Episode, Episodes, Missed}
+use Rattle.shared_cascade.specs.Tallies.{with_all}
+use Rattle.shared_cascade.specs.declared.callers.Caller.{Caller}
+use Rattle.shared_cascade.specs.declared.shared.Shared.{Shared}
+use Rattle.shared_cascade.specs.declared.tallies.Outcome.{Outcome}
+use Rattle.normaliser.specs.declared.faults.LineFault.{LineFault}
+use Rattle.normaliser.specs.declared.faults.LineFault.TheVariants.{Memory}
+use Rattle.normaliser.specs.declared.normalisers.Normaliser.{Normaliser}
+
+-- the caller may be given a line: it was opened with this normaliser, and its seat is idle
+abbrev pub IsCallerOf : Normaliser → Caller → Type 0
+IsCallerOf n c = IsReady n.shared c
+
+-- it was opened with this normaliser, and has done nothing
+abbrev pub IsNewCallerOf : Normaliser → Caller → Type 0
+IsNewCallerOf n c = IsNew n.shared c
+
+-- how many places the normaliser's table has
+abbrev pub places_of : Normaliser → ℕ
+places_of n = places_in n.shared
+
+-- The caller c has become d: episodes are all that came into its log, and what they came to was counted.
+pub record Searched (s : Shared) (c d : Caller) : Type 0 where
+  pub outcomes : List Outcome
+  pub entries : List Entry
+  pub episodes : Episodes (cascades_in s) (places_in s) outcomes entries
+  pub log : log_of d ≡ log_of c ++ entries
+  pub tally : d.tally ≡ with_all outcomes c.tally
+
+-- one episode came into its log, or a look alone that found nothing, and was counted
+abbrev pub GaveUp : Shared → Caller → Caller → Type 0
+GaveUp s c d = (key : List ℕ) × Adds c d (λ o es. Episode (cascades_in s) (places_in s) key o es ⊎ Missed (places_in s) key es)
+
+-- episodes came into its log, and then perhaps a look alone
+abbrev pub Stopped : Shared → Caller → Caller → Type 0
+Stopped s c d = Searched s c d ⊎ ((middle : Caller) × Searched s c middle × GaveUp s middle d)
+
+-- what a call that answered this did: only where memory was wanting may a look alone have come last
+abbrev pub Did : Shared → Caller → Caller → {T : Type 0} → Result T LineFault → Type 0
+Did s c d (Ok x) = Searched s c d
+Did s c d (Err Memory) = Stopped s c d
+Did s c d (Err fault) = Searched s c d

@@ -1,0 +1,14 @@
+use Rattle.std.proofs.Common.{◌∙◌, ap, sym}
+use Rattle.place_words.specs.Seats.{view_of}
+use Rattle.speak_core.specs.Parts.{says_of}
+use Rattle.speak_core.proofs.Hearing.{heard_part, heard_said}
+use Rattle.speak_core.proofs.speakers.Speaker.answer.Goals as goal
+
+pub returns-clause-said : goal.returns-clause-said
+returns-clause-said c = heard_said (says_of c.args.self.now) c.args.line.now c.say-answer.result (sym c.is_short-was_short.ensures ∙ c.if-was_short.false) c.say-answer.ensures.said
+
+pub returns-clause-part : goal.returns-clause-part
+returns-clause-part c =
+    heard_part c.args.self.now.normaliser c.args.line.now c.args.caller.now c.take_tally-others.new.self c.say-answer.new.caller c.take_tally-tally.new.self c.say-answer.result c.take_tally-tally.result
+    (ap (λ s. (view_of s).log) c.take_tally-others.ensures.seat) c.take_tally-others.ensures.anew (sym c.is_short-was_short.ensures ∙ c.if-was_short.false)
+    c.say-answer.ensures.searched c.say-answer.ensures.kept c.take_tally-tally.ensures.tally (ap (λ s. (view_of s).log) c.take_tally-tally.ensures.seat)

@@ -1,0 +1,65 @@
+-- What is reported of the looks for expansions that lines made: of each line, and in total.
+use Rattle.std.specs.Prelude.{◌≡◌, ℕ, ◌+◌, ◌-◌, ◌^◌, List, [], ◌∷◌, ◌++◌, Bool, true, false, codes, min}
+use Rattle.std.specs.Fmt.{decimal}
+use Rattle.normaliser.specs.Lines.{IsSearched}
+use Rattle.shared_cascade.specs.Tallies.{no_tally, with_all}
+use Rattle.shared_cascade.specs.declared.tallies.Outcome.{Outcome}
+use Rattle.shared_cascade.specs.declared.tallies.Tally.{Tally}
+
+-- What came of the looks for a line was counted. A line that isn't searched makes none.
+pub record IsTallyOf (line : List ℕ) (t : Tally) : Type 0 where
+  pub outcomes : List Outcome
+  pub counted : t ≡ with_all outcomes no_tally
+  pub unsearched : (IsSearched line → ⊥) → t ≡ no_tally
+
+-- so it is of each line, in order
+abbrev pub AllTallied : List (List ℕ) → List Tally → Type 0
+AllTallied [] [] = Unit {0}
+AllTallied [] (t ∷ ts) = ⊥
+AllTallied (line ∷ lines) [] = ⊥
+AllTallied (line ∷ lines) (t ∷ ts) = IsTallyOf line t × AllTallied lines ts
+
+-- a sum that stays at the greatest value
+abbrev pub sum_of : ℕ → ℕ → ℕ
+sum_of a b = min (a + b) (2 ^ 64 - 1)
+
+abbrev pub with_tally : Tally → Tally → Tally
+with_tally t u = record {
+  looks = sum_of t.looks u.looks;
+  shown = sum_of t.shown u.shown;
+  absent = sum_of t.absent u.absent;
+  published = sum_of t.published u.published;
+  no_place = sum_of t.no_place u.no_place;
+  wide = sum_of t.wide u.wide;
+}
+
+-- a tally, and then those of more lines
+abbrev pub with_tallies : Tally → List Tally → Tally
+with_tallies t [] = t
+with_tallies t (u ∷ us) = with_tallies (with_tally t u) us
+
+-- the six numbers by twos, and a line feed
+abbrev pub shown_text : Tally → List ℕ
+shown_text t = codes " looks " ++ (decimal t.looks ++ (codes " shown " ++ decimal t.shown))
+
+abbrev pub published_text : Tally → List ℕ
+published_text t = codes " absent " ++ (decimal t.absent ++ (codes " published " ++ decimal t.published))
+
+abbrev pub wide_text : Tally → List ℕ
+wide_text t = codes " no_place " ++ (decimal t.no_place ++ (codes " wide " ++ (decimal t.wide ++ 10 ∷ [])))
+
+abbrev pub numbers_text : Tally → List ℕ
+numbers_text t = shown_text t ++ (published_text t ++ wide_text t)
+
+-- of the line of this number
+abbrev pub report_text : ℕ → Tally → List ℕ
+report_text number t = codes "report line " ++ (decimal number ++ (codes ":" ++ numbers_text t))
+
+-- of so many lines
+abbrev pub total_text : ℕ → Tally → List ℕ
+total_text count t = codes "report total: lines " ++ (decimal count ++ numbers_text t)
+
+-- where a report is wanted
+abbrev pub if_wanted : Bool → List ℕ → List ℕ
+if_wanted true text = text
+if_wanted false text = []

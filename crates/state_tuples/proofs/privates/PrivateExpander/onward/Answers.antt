@@ -1,0 +1,12 @@
+use Rattle.std.proofs.Common.{◌∙◌, sym, subst}
+use Rattle.state_tuples.specs.Cascades.{Cascaded, IsOf}
+use Rattle.state_tuples.specs.Calls.{IsOnward}
+use Rattle.state_tuples.proofs.Lists.{only_one}
+use Rattle.state_tuples.proofs.privates.PrivateExpander.onward.Goals as goal
+
+pub returns : goal.returns
+returns c = record {
+  told = λ d h o.
+      let same = c.self.view_is ∙ only_one c.args.self.now d h in
+      subst (λ (v : Cascaded). IsOnward v c.args.t.now c.onward.result) same (c.onward.ensures.told (subst (λ (v : Cascaded). IsOf v c.args.t.now) (sym same) o));
+}
