@@ -8,7 +8,7 @@ use std::alloc::{AllocError, Global};
 use std::test::Fail;
 
 /// What room for a code holds before one is written there.
-const NOTHING: u64 = u64::MAX;
+pub(crate) const NOTHING: u64 = u64::MAX;
 
 /// The words of the code of a tuple's expansion, where there is room for it, and its length.
 fn code_of(alloc: Global, cascade: &Cascade, t: &Tuple) -> Result<(Vec<u64>, usize), AllocError>
@@ -23,7 +23,7 @@ fn code_of(alloc: Global, cascade: &Cascade, t: &Tuple) -> Result<(Vec<u64>, usi
 }
 
 /// A cascade of this number and of one part, with so many arcs from its start to its end, that read a few labels.
-fn fan(alloc: Global, number: u32, count: usize) -> Result<Option<Cascade>, AllocError> {
+pub(crate) fn fan(alloc: Global, number: u32, count: usize) -> Result<Option<Cascade>, AllocError> {
     let mut row = Vec::new(alloc);
     for k in 0..count {
         row.push(Arc {

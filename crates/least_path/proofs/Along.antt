@@ -9,7 +9,7 @@ use Rattle.std.proofs.lemmas.List.Sorted.{Contains-permutation, IsPermutation-sy
 use Rattle.std.proofs.lemmas.Option.{slice_get_within, slice_get-get_or, get_or_from_slice_get}
 use Rattle.weighted_relations.specs.declared.Arc.{Arc}
 use Rattle.weighted_relations.specs.Graphs.{label}
-use Rattle.weighted_relations.specs.Machines.{Machine, IsArc, final_of}
+use Rattle.weighted_relations.specs.Machines.{Machine, ArcFits, IsArc, WellFormed, final_of}
 use Rattle.weighted_relations.specs.SearchRunLaws.{contains_first, contains_later, contains_cases}
 use Rattle.state_tuples.specs.declared.tuples.Tuple.{Tuple}
 use Rattle.state_tuples.specs.declared.tuples.TupleArc.{TupleArc}
@@ -21,6 +21,17 @@ use Rattle.least_path.specs.Products.{Follows}
 use Rattle.least_path.specs.Growths.{Leading, Steps, AlongMoves, AlongArc, AlongArcs, AtEnd}
 use Rattle.least_path.specs.Keeps.{IsEdge}
 use Rattle.least_path.proofs.Growing.{IsGrowth}
+
+abbrev pub no_arc : Arc
+no_arc = record { input = 0; output = 0; weight = 0; next = 0 }
+
+-- an arc at its place in the row of a state
+pub arc_in : (m : Machine) (q i : ℕ) (row : List Arc) → row ≡ get_or m.arcs q [] → i < length row → IsArc m.arcs q i (get_or row i no_arc)
+arc_in m q i row is l = subst (λ r. slice_get r i ≡ Some (get_or row i no_arc)) is (slice_get-get_or row i no_arc l)
+
+-- it fits the source
+pub arc_fits : (m : Machine) (q i : ℕ) → WellFormed m → i < length (get_or m.arcs q []) → ArcFits (length m.arcs) (get_or (get_or m.arcs q []) i no_arc)
+arc_fits m q i wf l = wf.arcs q i (get_or (get_or m.arcs q []) i no_arc) (slice_get-get_or (get_or m.arcs q []) i no_arc l)
 
 module _ {S : Type 0} {G : S → S → Leading → Type 0} (growth : IsGrowth G) where
   pub moves_more : (a b c : S) (r : ℕ) (t : Tuple) (ms : List TupleArc) (i : ℕ) (d : TupleArc) → i < length ms

@@ -21,3 +21,4 @@ pub mod Forced
 pub mod Passing
 pub mod PassedOn
 pub mod Going
+pub mod Paying

@@ -1,4 +1,5 @@
 pub mod Starting
+pub mod Counting
 pub mod Texts
 pub mod Waiting
 pub mod Mixing
@@ -13,3 +14,4 @@ pub mod Forcing
 pub mod Passing
 pub mod Marks
 pub mod Relaxing
+pub mod Paying

@@ -6,6 +6,7 @@ ghost use Rattle.least_path.specs.Starting.{StopsAfter};
 ghost use Rattle.least_path.specs.Waiting.{Fits};
 ghost use Rattle.least_path.specs.Keeps.{Kept, GrownFrom};
 ghost use Rattle.least_path.specs.Growths.{Steps, AlongArc, AtEnd};
+ghost use Rattle.least_path.specs.Paying.{Pays, PaysAlong, PaysToEnd};
 
 use crate::node::Node;
 use crate::queue::Entry;
@@ -32,6 +33,7 @@ pub(crate) fn expand<X: Expander>(
     requires light { from.now.weight < 2 ^ 127 }
     requires short { from.now.length + 1 < 2 ^ 64 }
     ensures grown { OnOk result (GrownFrom (X.cascades x.old) tuple.now search.old search.new from.now (λ c. Steps source.now c (Node.At state tuple.now))) }
+    ensures pays { OnOk result (Pays source.now (Node.At state tuple.now) (X.calls x.old) (X.calls x.new) search.old.nodes search.new.nodes) }
     ensures ready { X.is_ready x.new }
     ensures on { OnOk result (X.goes_on x.old x.new) }
     ensures up { OnErr result (StopsAfter X.goes_on X.gives_up x.old x.new) }
@@ -62,6 +64,7 @@ fn follow<X: Expander>(
     requires light { from.now.weight < 2 ^ 127 }
     requires short { from.now.length + 1 < 2 ^ 64 }
     ensures grown { OnOk result (GrownFrom (X.cascades x.old) tuple.now search.old search.new from.now (λ c. AlongArc c tuple.now arc.now arc.now.input)) }
+    ensures pays { OnOk result (PaysAlong arc.now tuple.now (X.calls x.old) (X.calls x.new) search.old.nodes search.new.nodes) }
     ensures ready { X.is_ready x.new }
     ensures on { OnOk result (X.goes_on x.old x.new) }
     ensures up { OnErr result (StopsAfter X.goes_on X.gives_up x.old x.new) }
@@ -90,6 +93,7 @@ fn finish<X: Expander>(
     requires light { from.now.weight < 2 ^ 127 }
     requires short { from.now.length + 1 < 2 ^ 64 }
     ensures grown { OnOk result (GrownFrom (X.cascades x.old) tuple.now search.old search.new from.now (λ c. AtEnd c tuple.now last)) }
+    ensures pays { OnOk result (PaysToEnd last tuple.now (X.calls x.old) (X.calls x.new) search.old.nodes search.new.nodes) }
     ensures ready { X.is_ready x.new }
     ensures on { OnOk result (X.goes_on x.old x.new) }
     ensures up { OnErr result (StopsAfter X.goes_on X.gives_up x.old x.new) }

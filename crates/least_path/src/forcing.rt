@@ -6,6 +6,7 @@ ghost use Rattle.state_tuples.specs.Cascades.{Cascaded, IsOf, next_of};
 ghost use Rattle.least_path.specs.Forcing.{IsForced, Reads};
 ghost use Rattle.least_path.specs.Keeps.{IsEdge};
 ghost use Rattle.least_path.specs.Passing.{most_passed};
+ghost use Rattle.least_path.specs.Paying.{Adds, IsAt};
 ghost use Rattle.least_path.specs.Relaxing.{Kept, GainedFrom};
 ghost use Rattle.least_path.specs.Texts.{Grows};
 ghost use Rattle.least_path.specs.Waiting.{Fits};
@@ -43,6 +44,7 @@ pub(crate) fn meet_along<X: Expander>(
     ensures kept { OnOk result (Kept search.new) }
     ensures texts { OnOk result (Grows search.old.outputs search.new.outputs) }
     ensures gained { OnOk result (GainedFrom source.now (X.cascades x.now) tuple.now search.old search.new from.now (λ c. IsEdge (Node.At state (next_of tuple.now a.now)) a.now.weight (written a.now.output []))) }
+    ensures adds { OnOk result (Adds (IsAt state) search.old.nodes search.new.nodes) }
 {
     let mut way = *from;
     let mut last = *a;

@@ -13,8 +13,8 @@
 //!
 //! The contract says the whole result. What a reading is, and which is the least, is defined in `weighted_relations` (`Machines`,
 //! `Least`), and so is why such searches are right (`Searches`, `SearchRuns`); what a cascade reads is defined in `state_tuples`. Of this
-//! crate's own `specs`, `Starting` says what `least` is owed, `Products` has the edges that both follow, `Passing` says what it is to pass over
-//! nodes, and the others speak of their lists.
+//! crate's own `specs`, `Starting` says what `least` is owed, `Counting` how many calls it makes at least, `Products` has the edges that both
+//! follow, `Passing` says what it is to pass over nodes, `Paying` that each node is met after its calls, and the others speak of their lists.
 //!
 //! Its tests lie in `search_tests`, beside the plain program over one transducer and one line that it is held against.
 #![tactic(auto)]

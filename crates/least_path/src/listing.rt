@@ -1,6 +1,7 @@
 // The search by lists.
 
 ghost use Rattle.std.specs.Prelude.{◌≡◌, ◌≤◌, ◌^◌, IfOk, IfSome, OnErr, OnOk, option_map};
+ghost use Rattle.least_path.specs.Counting.{CallsForEach, HasRisen};
 ghost use Rattle.least_path.specs.Starting.{IsLeastFrom, IsStart, StopsAfter, WritesBytes};
 
 use crate::answers::{Least, bytes_of};
@@ -30,6 +31,8 @@ pub(crate) fn least_by_lists<X: Expander>(
     requires start { IsStart (X.cascades x.old) start.now }
     requires bytes { WritesBytes (X.cascades x.old) start.now }
     ensures least { IfOk result (λ found. IfSome found (λ answer. IsLeastFrom source.now (X.cascades x.old) start.now (option_map (λ l. (l.weight, l.output.items)) answer))) }
+    ensures calls { IfOk result (λ found. IfSome found (λ answer. IfSome answer (λ _. CallsForEach source.now (X.calls x.old) (X.calls x.new)))) }
+    ensures risen { OnOk result (HasRisen 0 (X.calls x.old) (X.calls x.new)) }
     ensures ready { X.is_ready x.new }
     ensures on { OnOk result (X.goes_on x.old x.new) }
     ensures up { OnErr result (StopsAfter X.goes_on X.gives_up x.old x.new) }

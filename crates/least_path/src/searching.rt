@@ -1,6 +1,7 @@
 // The search over a source and the tuples of an expander.
 
-ghost use Rattle.std.specs.Prelude.{IfOk, OnErr, OnOk, option_map};
+ghost use Rattle.std.specs.Prelude.{IfOk, IfSome, OnErr, OnOk, option_map};
+ghost use Rattle.least_path.specs.Counting.{CallsForEach};
 ghost use Rattle.least_path.specs.Starting.{IsLeastFrom, IsStart, StopsAfter, WritesBytes};
 
 use crate::answers::{Least, bytes_of};
@@ -16,6 +17,8 @@ use std::alloc::{AllocError, Global};
 /// The least reading of the cascade that starts at the tuple, at an input of the source: by weight, then by the length of its output, then by
 /// its bytes. None exactly where there is none. What the source writes and weighs does not count.
 ///
+/// Where there is one, it makes a call for each label that all inputs of the source have at least, and one more for the end.
+///
 /// It searches by lists, which is fast on a line. Where that search gives up, which costs a constant factor at most, the one by the queue
 /// answers.
 pub fn least<X: Expander>(
@@ -28,6 +31,7 @@ pub fn least<X: Expander>(
     requires start { IsStart (X.cascades x.old) start.now }
     requires bytes { WritesBytes (X.cascades x.old) start.now }
     ensures least { IfOk result (λ answer. IsLeastFrom source.now (X.cascades x.old) start.now (option_map (λ l. (l.weight, l.output.items)) answer)) }
+    ensures calls { IfOk result (λ answer. IfSome answer (λ _. CallsForEach source.now (X.calls x.old) (X.calls x.new))) }
     ensures ready { X.is_ready x.new }
     ensures on { OnOk result (X.goes_on x.old x.new) }
     ensures up { OnErr result (StopsAfter X.goes_on X.gives_up x.old x.new) }
@@ -53,6 +57,7 @@ pub fn least_by_queue<X: Expander>(
     requires start { IsStart (X.cascades x.old) start.now }
     requires bytes { WritesBytes (X.cascades x.old) start.now }
     ensures least { IfOk result (λ answer. IsLeastFrom source.now (X.cascades x.old) start.now (option_map (λ l. (l.weight, l.output.items)) answer)) }
+    ensures calls { IfOk result (λ answer. IfSome answer (λ _. CallsForEach source.now (X.calls x.old) (X.calls x.new))) }
     ensures ready { X.is_ready x.new }
     ensures on { OnOk result (X.goes_on x.old x.new) }
     ensures up { OnErr result (StopsAfter X.goes_on X.gives_up x.old x.new) }

@@ -8,6 +8,7 @@ ghost use Rattle.least_path.specs.Starting.{StopsAfter};
 ghost use Rattle.least_path.specs.Waiting.{Fits};
 ghost use Rattle.least_path.specs.Relaxing.{Kept, GainedFrom};
 ghost use Rattle.least_path.specs.Growths.{Steps, AlongArc, AlongMoves, AtEnd};
+ghost use Rattle.least_path.specs.Paying.{Adds, IsAt, Pays, PaysAlong};
 ghost use Rattle.least_path.specs.Texts.{Grows};
 ghost use Rattle.weighted_relations.specs.Machines.{final_of};
 
@@ -39,6 +40,7 @@ pub(crate) fn spread<X: Expander>(
     requires light { from.now.weight < 2 ^ 126 }
     requires short { from.now.length + 4097 < 2 ^ 64 }
     ensures gained { OnOk result (GainedFrom source.now (X.cascades x.old) tuple.now search.old search.new from.now (λ c. Steps source.now c (Node.At state tuple.now))) }
+    ensures pays { OnOk result (Pays source.now (Node.At state tuple.now) (X.calls x.old) (X.calls x.new) search.old.nodes search.new.nodes) }
     ensures ready { X.is_ready x.new }
     ensures on { OnOk result (X.goes_on x.old x.new) }
     ensures up { OnErr result (StopsAfter X.goes_on X.gives_up x.old x.new) }
@@ -68,6 +70,7 @@ fn spread_all<X: Expander>(
     requires light { from.now.weight < 2 ^ 126 }
     requires short { from.now.length + 4097 < 2 ^ 64 }
     ensures gained { OnOk result (GainedFrom source.now (X.cascades x.old) tuple.now search.old search.new from.now (λ c. Steps source.now c (Node.At state tuple.now))) }
+    ensures pays { OnOk result (Pays source.now (Node.At state tuple.now) (X.calls x.old) (X.calls x.new) search.old.nodes search.new.nodes) }
     ensures ready { X.is_ready x.new }
     ensures on { OnOk result (X.goes_on x.old x.new) }
     ensures up { OnErr result (StopsAfter X.goes_on X.gives_up x.old x.new) }
@@ -100,6 +103,7 @@ fn spread_silently<X: Expander>(
     ensures kept { OnOk result (Kept search.new) }
     ensures texts { OnOk result (Grows search.old.outputs search.new.outputs) }
     ensures gained { OnOk result (GainedFrom source.now (X.cascades x.old) tuple.now search.old search.new from.now (λ c. AlongMoves state tuple.now (moves_on c tuple.now 0))) }
+    ensures pays { OnOk result (Pays source.now (Node.At state tuple.now) (X.calls x.old) (X.calls x.new) search.old.nodes search.new.nodes) }
     ensures ready { X.is_ready x.new }
     ensures on { OnOk result (X.goes_on x.old x.new) }
     ensures up { OnErr result (StopsAfter X.goes_on X.gives_up x.old x.new) }
@@ -133,6 +137,7 @@ fn spread_moves<X: Expander>(
     ensures kept { OnOk result (Kept search.new) }
     ensures texts { OnOk result (Grows search.old.outputs search.new.outputs) }
     ensures gained { OnOk result (GainedFrom source.now (X.cascades x.now) tuple.now search.old search.new from.now (λ c. AlongMoves state tuple.now moves.now)) }
+    ensures adds { OnOk result (Adds (IsAt state) search.old.nodes search.new.nodes) }
 {
     for a in moves {
         let next = next_tuple(tuple, a);
@@ -163,6 +168,7 @@ fn spread_along<X: Expander>(
     requires light { from.now.weight < 2 ^ 126 }
     requires short { from.now.length + 4097 < 2 ^ 64 }
     ensures gained { OnOk result (GainedFrom source.now (X.cascades x.old) tuple.now search.old search.new from.now (λ c. AlongArc c tuple.now arc.now arc.now.input)) }
+    ensures pays { OnOk result (PaysAlong arc.now tuple.now (X.calls x.old) (X.calls x.new) search.old.nodes search.new.nodes) }
     ensures ready { X.is_ready x.new }
     ensures on { OnOk result (X.goes_on x.old x.new) }
     ensures up { OnErr result (StopsAfter X.goes_on X.gives_up x.old x.new) }
@@ -193,6 +199,7 @@ fn spread_to_end<X: Expander>(
     requires light { from.now.weight < 2 ^ 126 }
     requires short { from.now.length + 4097 < 2 ^ 64 }
     ensures gained { OnOk result (GainedFrom source.now (X.cascades x.old) tuple.now search.old search.new from.now (λ c. AtEnd c tuple.now (final_of source.now.finals state))) }
+    ensures pays { OnOk result (Pays source.now (Node.At state tuple.now) (X.calls x.old) (X.calls x.new) search.old.nodes search.new.nodes) }
     ensures ready { X.is_ready x.new }
     ensures on { OnOk result (X.goes_on x.old x.new) }
     ensures up { OnErr result (StopsAfter X.goes_on X.gives_up x.old x.new) }

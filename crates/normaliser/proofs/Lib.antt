@@ -2,6 +2,7 @@ pub mod Alike
 pub mod Firsts
 pub mod Joinings
 pub mod LineAnswers
+pub mod Looking
 pub mod Once
 pub mod Rules
 pub mod Sayings

@@ -1,12 +1,15 @@
 -- What comes into the log of a caller's seat while a line is spoken.
-use Rattle.std.specs.Prelude.{◌≡◌, ◌⊎◌, ℕ, List, ◌++◌, Result, Ok, Err}
+use Rattle.std.specs.Prelude.{◌≡◌, ◌⊎◌, ◌≤◌, ◌+◌, ℕ, List, ◌++◌, Result, Ok, Err, length}
 use Rattle.place_words.specs.declared.view.Entry.{Entry}
-use Rattle.shared_cascade.specs.Callers.{Adds, IsNew, IsReady, cascades_in, log_of, places_in}
+use Rattle.shared_cascade.specs.Callers.{Adds, IsNew, IsReady, cascades_in, log_of, looks_of, places_in}
 use Rattle.shared_cascade.specs.Episodes.{Episode, Episodes, Missed}
 use Rattle.shared_cascade.specs.Tallies.{with_all}
 use Rattle.shared_cascade.specs.declared.callers.Caller.{Caller}
 use Rattle.shared_cascade.specs.declared.shared.Shared.{Shared}
 use Rattle.shared_cascade.specs.declared.tallies.Outcome.{Outcome}
+use Rattle.weighted_relations.specs.Relations.{IsInput}
+use Rattle.normaliser.specs.Lines.{IsSearched}
+use Rattle.normaliser.specs.Loads.{classifier_of}
 use Rattle.normaliser.specs.declared.faults.LineFault.{LineFault}
 use Rattle.normaliser.specs.declared.faults.LineFault.TheVariants.{Memory}
 use Rattle.normaliser.specs.declared.normalisers.Normaliser.{Normaliser}
@@ -44,3 +47,17 @@ abbrev pub Did : Shared → Caller → Caller → {T : Type 0} → Result T Line
 Did s c d (Ok x) = Searched s c d
 Did s c d (Err Memory) = Stopped s c d
 Did s c d (Err fault) = Searched s c d
+
+-- memory sufficed
+abbrev pub HadMemory : {T : Type 0} → Result T LineFault → Type 0
+HadMemory (Ok x) = Unit {0}
+HadMemory (Err Memory) = ⊥
+HadMemory (Err fault) = Unit {0}
+
+-- a look for each byte of the line, and one more
+abbrev pub LooksThrough : Shared → Caller → Caller → List ℕ → Type 0
+LooksThrough s c d line = looks_of s c + (length line + 1) ≤ looks_of s d
+
+-- where a line is searched, the classifier has a reading of it, and memory sufficed
+abbrev pub LooksWhereRead : Normaliser → Caller → Caller → List ℕ → {T : Type 0} → Result T LineFault → Type 0
+LooksWhereRead n c d line answer = IsSearched line → IsInput (classifier_of n) line → HadMemory answer → LooksThrough n.shared c d line

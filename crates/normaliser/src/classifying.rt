@@ -6,7 +6,7 @@ ghost use Rattle.weighted_relations.specs.Relations.{IsLabel};
 ghost use Rattle.normaliser.specs.Lines.{HasNoZero};
 ghost use Rattle.normaliser.specs.Loads.{classifier_of};
 ghost use Rattle.normaliser.specs.Parts.{IsOutput, IsUnsearched};
-ghost use Rattle.normaliser.specs.Searches.{Searched, Stopped};
+ghost use Rattle.normaliser.specs.Searches.{LooksThrough, Searched, Stopped};
 
 use crate::faults::LineFault;
 use crate::normalisers::Normaliser;
@@ -44,6 +44,7 @@ impl Normaliser {
         requires ready { IsReady self.now.shared caller.old }
         requires no_zero { HasNoZero line.now }
         ensures output { IfOk result (IsOutput (classifier_of self.now) (λ x. x ≡ line.now)) }
+        ensures looks { IfOk result (λ output. IfSome output (λ _. LooksThrough self.now.shared caller.old caller.new line.now)) }
         ensures ready { IsReady self.now.shared caller.new }
         ensures searched { OnOk result (Searched self.now.shared caller.old caller.new) }
         ensures stopped { OnErr result (Stopped self.now.shared caller.old caller.new) }

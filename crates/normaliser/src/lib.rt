@@ -18,9 +18,10 @@ mod normalisers;
 mod preparing;
 mod searching;
 mod sharing;
+mod stalling;
 mod verbalising;
 
 pub use faults::{LineFault, LoadFault};
 pub use loading::load;
 pub use normalisers::{Normaliser, Spoken};
-pub use shared_cascade::{Caller, Swept, Tally};
+pub use shared_cascade::{Caller, How, Stalled, Swept, Tally};

@@ -8,7 +8,7 @@ ghost use Rattle.token_record.specs.Writable.{TokenHasNoZero};
 ghost use Rattle.normaliser.specs.Lines.{Classified, IsSaid, IsSearched};
 ghost use Rattle.normaliser.specs.Loads.{classifier_of, verbaliser_of};
 ghost use Rattle.normaliser.specs.Parts.{AreTokens};
-ghost use Rattle.normaliser.specs.Searches.{Did, IsCallerOf, places_of};
+ghost use Rattle.normaliser.specs.Searches.{Did, IsCallerOf, LooksWhereRead, places_of};
 ghost use Rattle.normaliser.specs.Words.{Words};
 
 use crate::classifying::fault_of;
@@ -20,7 +20,7 @@ use token_record::{Token, TokenFault, read_tokens};
 
 impl Normaliser {
     /// The classifier's output for a line, or the first of the line's faults `NulByte`, `LongLine` and `NoPath`. An empty line gives
-    /// no bytes and isn't searched.
+    /// no bytes and isn't searched. A line of n bytes that is searched and has a reading takes at least n + 1 looks.
     pub fn classify_line(
         &self,
         alloc: Global,
@@ -31,6 +31,7 @@ impl Normaliser {
         ensures said { IsSaid (Classified (classifier_of self.now)) line.now result }
         ensures ready { IsCallerOf self.now caller.new }
         ensures searched { Did self.now.shared caller.old caller.new result }
+        ensures looks { LooksWhereRead self.now caller.old caller.new line.now result }
         ensures kept { (IsSearched line.now → ⊥) → caller.new ≡ caller.old }
     {
         if line.is_empty() {
@@ -48,7 +49,8 @@ impl Normaliser {
     }
 
     /// The words of a line, or its first fault. The words of its tokens that have at least one byte are joined by single spaces. An
-    /// empty line gives no bytes and isn't searched.
+    /// empty line gives no bytes and isn't searched. A line of n bytes that is searched and that the classifier reads takes at least
+    /// n + 1 looks.
     pub fn speak_line(
         &self,
         alloc: Global,
@@ -59,6 +61,7 @@ impl Normaliser {
         ensures said { IsSaid (Words (classifier_of self.now) (verbaliser_of self.now)) line.now result }
         ensures ready { IsCallerOf self.now caller.new }
         ensures searched { Did self.now.shared caller.old caller.new result }
+        ensures looks { LooksWhereRead self.now caller.old caller.new line.now result }
         ensures kept { (IsSearched line.now → ⊥) → caller.new ≡ caller.old }
     {
         if line.is_empty() {

@@ -325,6 +325,33 @@ fn no_looks(rt: HostRuntime) -> Result<(), Fail> {
     Ok(())
 }
 
+/// A line that is read takes a look for each byte, and one more, whether or not it says tokens.
+#[test]
+fn a_look_for_each_byte(rt: HostRuntime) -> Result<(), Fail> {
+    let alloc = rt.alloc();
+    for bytes in [1, 16, 1000] {
+        let Prepared {
+            normaliser,
+            mut caller,
+        } = ready_for(
+            alloc,
+            ["export MAIN = \"a\"*;"].as_slice(),
+            [].as_slice(),
+            7,
+        )?;
+        let line = vec![in alloc; b'a'; bytes]?;
+        let answer = normaliser.classify_line(alloc, &mut caller, &line);
+        assert!(rt; answer.is_ok());
+        let looks = caller.take_tally().looks;
+        assert!(rt; looks > bytes as u64, "{looks} looks");
+        let answer = normaliser.speak_line(alloc, &mut caller, &line);
+        assert!(rt; matches!(answer, Err(LineFault::NotTokens { .. })));
+        let looks = caller.take_tally().looks;
+        assert!(rt; looks > bytes as u64, "{looks} looks");
+    }
+    Ok(())
+}
+
 /// What is answered, as text.
 fn told(alloc: Global, answer: &Result<Spoken, LineFault>) -> Result<Vec<u8>, AllocError> {
     let mut text = Vec::new(alloc);

@@ -8,5 +8,6 @@ pub mod Tallies
 pub mod Since
 pub mod Callers
 pub mod Sweeps
+pub mod Stalls
 pub mod Hands
 pub mod HandLaws

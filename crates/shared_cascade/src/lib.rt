@@ -5,8 +5,8 @@
 //! and publishes it where there is none, and answers from it. Threads may share a `Shared`; a caller is its user's own.
 //!
 //! The definitions lie in `specs/`: `RightCodes` (which codes the table may hold), `Episodes` (what a call adds to the log of the caller's seat),
-//! `Counts` (how many looks a log has), `Tallies`, `Callers` (when a caller is ready, and what a visit leaves in its hands) and `Hands` (how a log
-//! grows while a search uses it).
+//! `Counts` (how many looks a log has), `Tallies`, `Callers` (when a caller is ready, and what a visit leaves in its hands), `Hands` (how a log
+//! grows while a search uses it) and `Stalls` (where a caller stays that stops in the middle).
 //!
 //! A call that fails, fails for want of memory alone, and leaves its caller ready.
 #![tactic(auto)]
@@ -18,6 +18,7 @@ mod hands;
 mod holding;
 mod opening;
 mod shared;
+mod stalling;
 mod sweeping;
 mod tallies;
 mod visits;
@@ -25,5 +26,6 @@ mod visits;
 pub use callers::Caller;
 pub use hands::Hand;
 pub use shared::Shared;
+pub use stalling::{How, Stalled};
 pub use sweeping::Swept;
 pub use tallies::{Outcome, Tally};

@@ -2,6 +2,8 @@ use Rattle.std.proofs.Common.{take}
 use Rattle.state_tuples.specs.Calls.{IsKnown}
 use Rattle.least_path.specs.Texts.{Grows}
 use Rattle.least_path.specs.Growths.{AlongArcs}
+use Rattle.least_path.specs.declared.node.Node.TheVariants.{At}
+use Rattle.least_path.specs.Paying.{Pays}
 use Rattle.least_path.specs.Keeps.{Kept, GrownFrom}
 use Rattle.least_path.proofs.expanding.expand.Given as goal
 
@@ -13,4 +15,5 @@ invariant-loop-arc g l = record {
   ready : g.X.Expander.is_ready l.x;
   known : IsKnown (g.X.Expander.cascades l.x) l.tuple;
   on : g.X.Expander.goes_on l.fn.x l.x;
+  pays : Pays l.source (At l.state l.tuple) (g.X.Expander.calls l.fn.x) (g.X.Expander.calls l.x) l.fn.search.nodes l.search.nodes;
 }

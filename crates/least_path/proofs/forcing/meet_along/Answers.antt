@@ -10,9 +10,10 @@ use Rattle.least_path.specs.Passing.{Passes}
 use Rattle.least_path.specs.Keeps.{IsEdge}
 use Rattle.least_path.specs.Growths.{Leading, Steps}
 use Rattle.least_path.proofs.Letters.{grows_same, grows_trans}
-use Rattle.least_path.proofs.Growing.{IsGrowth}
 use Rattle.least_path.proofs.Going.{Came, came_first, came_more}
 use Rattle.least_path.proofs.Meeting.{gained_growth, gained_texts, gained_through, kept_texts}
+use Rattle.least_path.specs.Paying.{Adds, IsAt}
+use Rattle.least_path.proofs.Paying.{adds_at, adds_met}
 use Rattle.least_path.proofs.forcing.meet_along.Goals as goal
 
 pub loop-more-init : goal.loop-more-init
@@ -84,3 +85,10 @@ returns-clause-gained g c = λ d k h.
     (gained_texts (Passes (Steps m d)) (CanEnd m d) s mid from.weight y c.requires.kept c.loop-more.invariant.texts c.loop-more.invariant.nodes c.loop-more.invariant.marks c.loop-more.invariant.lists)
     (gained_through (Passes (Steps m d)) (CanEnd m d) mid c.relax.new.self first (At q c.loop-more.next) way.weight from.weight last.weight a.weight came.more (text_of mid.outputs way.output) y (label last.output []) (label a.output []) came.text (c.loop-more.passed, c.loop-more.invariant.few, came.passed) came.weight came.output c.in_ok-relax.ensures)
     (λ n u z e. inr e) (λ n u z e. absurd e) (λ n u z e. e)
+
+pub returns-clause-adds : goal.returns-clause-adds
+returns-clause-adds g c =
+    let s = c.loop-more.search in
+    let q = c.args.state in
+    let t = c.loop-more.next in
+    subst (λ ns. Adds (IsAt q) ns c.relax.new.self.nodes) c.loop-more.invariant.nodes (adds_at q t s.nodes c.relax.new.self.nodes (adds_met s c.relax.new.self (At q t) c.loop-more.way.weight c.loop-more.last.weight (text_of s.outputs c.loop-more.way.output) (label c.loop-more.last.output []) c.in_ok-relax.ensures))

@@ -24,6 +24,7 @@ use Rattle.least_path.specs.Relaxing.{Gained, GainedFrom, IsBest}
 use Rattle.least_path.proofs.Stops.{stops_later}
 use Rattle.least_path.proofs.Wholes.{byte_small}
 use Rattle.least_path.proofs.Corrections.{Runs, with_lists, with_done, runs_start, runs_none, runs_found, runs_ended, runs_passed, runs_more, taken_within, taken_marked, taken_known, taken_kept, taken_fits, taken_light, taken_short}
+use Rattle.least_path.proofs.Paying.{adds_at, adds_met, paid_start, risen_later, risen_self}
 use Rattle.least_path.proofs.listing.least_by_lists.Goals as goal
 
 sound_of : (cascades : List Cascaded) (start : Tuple) → All IsSound cascades → (d : Cascaded) → StartsAt cascades start d → IsSound d
@@ -43,6 +44,8 @@ loop-number-init g c =
       runs = λ d h. runs_start c.args.source.now d c.start.ensures.sound (closed_of (g.X.Expander.cascades c.args.x.now) c.args.start.now (g.met.X.Expander.sound c.args.x.now c.requires.ready) d h) s0 s c.in_ok-search.ensures.nodes (subst (λ t. Gained Stays Every c.in_ok-search.search c.relax.new.self 0 [] (IsEdge (At c.args.source.now.start t) 0 [])) h.first at) c.in_ok-search.ensures.marks;
       ready = c.requires.ready;
       on = g.met.X.Expander.on_self c.args.x.now;
+      risen = risen_self (g.X.Expander.calls c.args.x.now);
+      paid = paid_start c.args.source.now (g.X.Expander.calls c.args.x.now) s0.nodes s.nodes c.in_ok-search.ensures.nodes (adds_at c.args.source.now.start c.args.start.now s0.nodes s.nodes (adds_met s0 s (At c.args.source.now.start c.args.start.now) 0 0 [] [] at));
     }
 
 pub index-requires : goal.index-requires
@@ -74,6 +77,8 @@ loop-number-preserved-in_default-index g c =
       runs = λ d h. runs_passed c.args.source.now d c.loop-number.search c.loop-number.taken (c.loop-number.invariant.runs d h) c.in-Some.number c.take.new.self c.in-Some.ensures (λ b w. absurd (c.in_default-index.not-Waiting b (sym at ∙ w)));
       ready = c.loop-number.invariant.ready;
       on = c.loop-number.invariant.on;
+      risen = c.loop-number.invariant.risen;
+      paid = c.loop-number.invariant.paid;
     }
 
 pub loop-number-preserved-in_default-node : goal.loop-number-preserved-in_default-node
@@ -82,6 +87,8 @@ loop-number-preserved-in_default-node g c = record {
   runs = λ d h. runs_passed c.args.source.now d c.loop-number.search c.loop-number.taken (c.loop-number.invariant.runs d h) c.in-Some.number c.take.new.self c.in-Some.ensures (λ b w. c.node.ensures ∙ ap Some c.in_default-node.is);
   ready = c.loop-number.invariant.ready;
   on = c.loop-number.invariant.on;
+  risen = c.loop-number.invariant.risen;
+  paid = c.loop-number.invariant.paid;
 }
 
 pub spread-requires : goal.spread-requires
@@ -134,6 +141,8 @@ loop-number-preserved g c =
           runs_more c.args.source.now d old taken runs k rest c.in-Some.ensures way waits q t at c.loop-number.invariant.sound (closed_of cascades start (g.met.X.Expander.sound c.args.x.now c.requires.ready) d h) new (gained d h.one known.1);
       ready = c.spread.ensures.ready;
       on = g.met.X.Expander.on_again c.args.x.now c.loop-number.x c.spread.new.x c.loop-number.invariant.on c.in_ok-spread.ensures.on;
+      risen = risen_later 0 (g.X.Expander.calls c.args.x.now) (g.X.Expander.calls c.loop-number.x) (g.X.Expander.calls c.spread.new.x) c.loop-number.invariant.risen c.in_ok-spread.ensures.pays.risen;
+      paid = λ n reads. c.in_ok-spread.ensures.pays.nodes n (g.X.Expander.calls c.args.x.now) (c.loop-number.invariant.paid n reads k (At q t) at) (c.loop-number.invariant.paid n reads);
     }
 
 pub returns-in_err-spread-clause-up : goal.returns-in_err-spread-clause-up
@@ -177,3 +186,6 @@ returns-clause-least g c =
     let least = found c.args.source.now cascades c.args.start.now (g.met.X.Expander.sound c.args.x.now c.requires.ready) c.loop-number.invariant.sound c.cascades_read_their_parts.ensures c.loop-number.search c.loop-number.taken c.loop-number.invariant.runs c.in_default.ensures.0 c.take.new.self c.in_default.ensures.1 way c.in-Some-best_end.ensures in
     let text : c.in_ok-bytes_of.field-0.items ≡ text_of c.loop-number.search.outputs c.in-Some-best_end.way.output = c.in_ok-bytes_of.ensures ∙ c.deref.ensures.value ∙ c.in_ok-labels.ensures in
     subst (λ y. IsLeastFrom c.args.source.now (g.X.Expander.cascades c.args.x.now) c.args.start.now (Some (c.in-Some-best_end.way.weight, y))) (sym text) least
+
+pub returns-clause-calls : goal.returns-clause-calls
+returns-clause-calls g c = λ n reads. (let end = c.in-Some-best_end.ensures.met in c.loop-number.invariant.paid n reads end.number End end.node)

@@ -1,4 +1,4 @@
-use Rattle.std.proofs.Common.{◌≡◌, ◌<◌, [], get_or, sym, ap, ◌∙◌, subst, arith, rules, Some}
+use Rattle.std.proofs.Common.{◌≡◌, ◌<◌, ℕ, [], slice_get, get_or, sym, ap, ◌∙◌, subst, arith, rules, Some}
 use Rattle.std.specs.Prelude.{All}
 use Rattle.state_tuples.specs.Calls.{IsKnown}
 use Rattle.least_path.specs.declared.node.Node.TheVariants.{At, End}
@@ -10,6 +10,9 @@ use Rattle.least_path.specs.Keeps.{Grown, GrownFrom, IsEdge}
 use Rattle.least_path.proofs.Stops.{stops_later}
 use Rattle.least_path.proofs.Turns.{taken_within, taken_at}
 use Rattle.least_path.proofs.Wholes.{all_start, all_none, all_found, all_bytes, all_known_tuple, all_known_state, all_count, all_light, all_short, all_more, all_smaller}
+use Rattle.least_path.specs.Counting.{ReadsAtLeast}
+use Rattle.least_path.specs.Paying.{ArePaid}
+use Rattle.least_path.proofs.Paying.{adds_at, adds_reached, paid_start}
 use Rattle.least_path.proofs.searching.least_by_queue.Goals as goal
 
 pub loop-entry-init : goal.loop-entry-init
@@ -23,6 +26,7 @@ loop-entry-init g c =
       runs = all_start c.args.source.now (g.X.Expander.cascades c.args.x.now) c.args.start.now (g.met.X.Expander.sound c.args.x.now c.requires.ready) c.start.ensures.sound c.cascades_read_their_parts.ensures s0 s c.new-search.ensures.nodes c.new-search.ensures.standings c.new-search.ensures.queue at;
       ready = c.requires.ready;
       on = g.met.X.Expander.on_self c.args.x.now;
+      paid = paid_start c.args.source.now (g.X.Expander.calls c.args.x.now) s0.nodes s.nodes c.new-search.ensures.nodes (adds_at c.args.source.now.start c.args.start.now s0.nodes s.nodes (adds_reached s0 s (At c.args.source.now.start c.args.start.now) 0 0 [] [] at));
     }
 
 pub returns-clause-least : goal.returns-clause-least
@@ -85,14 +89,20 @@ loop-entry-preserved g c =
     let at : get_or c.loop-entry.search.nodes c.in-Some.entry.node End ≡ At c.in-At.state c.in-At.tuple = taken_at c.loop-entry.search c.next.new.self c.in-Some.entry c.in-Some.ensures (At c.in-At.state c.in-At.tuple) (c.key.ensures.value ∙ ap Some c.in-At.is) in
     let same = g.met.X.Expander.on_stays c.args.x.now c.loop-entry.x c.loop-entry.invariant.on in
     let grown : GrownFrom (g.X.Expander.cascades c.args.x.now) c.in-At.tuple c.next.new.self c.expand.new.search c.in-Some.entry (λ d. Steps c.args.source.now d (At c.in-At.state c.in-At.tuple)) = subst (λ cs. GrownFrom cs c.in-At.tuple c.next.new.self c.expand.new.search c.in-Some.entry (λ d. Steps c.args.source.now d (At c.in-At.state c.in-At.tuple))) same c.in_ok-expand-in-At.ensures.grown in
+    let calls = g.X.Expander.calls c.args.x.now in
+    let paid : (n : ℕ) → ReadsAtLeast c.args.source.now n → ArePaid c.args.source.now n calls (g.X.Expander.calls c.loop-entry.x) c.next.new.self.nodes = λ n reads. subst (ArePaid c.args.source.now n (g.X.Expander.calls c.args.x.now) (g.X.Expander.calls c.loop-entry.x)) (sym c.in-Some.ensures.nodes) (c.loop-entry.invariant.paid n reads) in
     record {
       sound = c.loop-entry.invariant.sound;
       runs = all_more c.args.source.now (g.X.Expander.cascades c.args.x.now) c.args.start.now (g.met.X.Expander.sound c.args.x.now c.requires.ready) c.loop-entry.invariant.sound c.cascades_read_their_parts.ensures c.loop-entry.search c.loop-entry.invariant.runs c.next.new.self c.in-Some.entry c.in-Some.ensures c.in-At.state c.in-At.tuple at c.expand.new.search grown;
       ready = c.expand.ensures.ready;
       on = g.met.X.Expander.on_again c.args.x.now c.loop-entry.x c.expand.new.x c.loop-entry.invariant.on c.in_ok-expand-in-At.ensures.on;
+      paid = λ n reads. c.in_ok-expand-in-At.ensures.pays.nodes n calls (paid n reads c.in-Some.entry.node (At c.in-At.state c.in-At.tuple) (c.key.ensures.value ∙ ap Some c.in-At.is)) (paid n reads);
     }
 
 pub returns-in_err-expand-in-At-clause-up : goal.returns-in_err-expand-in-At-clause-up
 returns-in_err-expand-in-At-clause-up g c =
     let h = stops_later g.X.Expander.goes_on g.X.Expander.gives_up g.met.X.Expander.on_again c.args.x.now c.loop-entry.x c.expand.new.x c.loop-entry.invariant.on c.in_err-expand-in-At.ensures.up in
     search rules
+
+pub returns-in-End-clause-calls : goal.returns-in-End-clause-calls
+returns-in-End-clause-calls g c = λ n reads. c.loop-entry.invariant.paid n reads c.in-Some.entry.node End (subst (λ ns. slice_get ns c.in-Some.entry.node ≡ Some End) c.in-Some.ensures.nodes (c.key.ensures.value ∙ ap Some c.in-End.is))

@@ -2,9 +2,8 @@ use Rattle.std.proofs.Common.{◌≡◌, ◌<◌, ◌≤◌, [], ℕ, refl, take
 use Rattle.std.specs.Prelude.{Contains}
 use Rattle.std.proofs.lemmas.List.{take_all}
 use Rattle.weighted_relations.specs.declared.Arc.{Arc}
-use Rattle.std.proofs.lemmas.Option.{slice_get-get_or}
 use Rattle.weighted_relations.specs.Searches.{Edges}
-use Rattle.weighted_relations.specs.Machines.{Machine, WellFormed, ArcFits, final_of}
+use Rattle.weighted_relations.specs.Machines.{final_of}
 use Rattle.state_tuples.specs.Calls.{IsKnown}
 use Rattle.least_path.specs.declared.node.Node.{Node}
 use Rattle.least_path.specs.declared.relaxing.Relaxed.{Relaxed}
@@ -17,20 +16,14 @@ use Rattle.least_path.specs.Relaxing.{Gained}
 use Rattle.least_path.proofs.Letters.{grows_same, grows_text, grows_trans}
 use Rattle.least_path.proofs.Waiters.{fits_grow}
 use Rattle.least_path.proofs.Meeting.{gained_none, gained_growth, gained_at}
-use Rattle.least_path.proofs.Along.{arcs_more, steps_whole}
+use Rattle.least_path.proofs.Along.{arc_fits, arc_in, arcs_more, no_arc, steps_whole}
 use Rattle.least_path.proofs.Stops.{stops_later}
+use Rattle.least_path.proofs.Paying.{pays_then}
 use Rattle.least_path.proofs.spreading.spread_all.Goals as goal
-
-abbrev no_arc : Arc
-no_arc = record { input = 0; output = 0; weight = 0; next = 0 }
 
 -- a growth, with the text of the beginning
 from_start : (On : Edges Node) (counts : Node → Type 0) (a b c : Relaxed) (w o : ℕ) (D : Leading) → Grows a.outputs b.outputs → o < length a.outputs → Gained On counts b c w (text_of b.outputs o) D → Gained On counts b c w (text_of a.outputs o) D
 from_start On counts a b c w o D texts l h = gained_at On counts b c w (text_of a.outputs o) (text_of b.outputs o) (grows_text a.outputs b.outputs texts o l) h
-
--- an arc of the source fits it
-arc_fits : (m : Machine) (q i : ℕ) → WellFormed m → i < length (get_or m.arcs q []) → ArcFits (length m.arcs) (get_or (get_or m.arcs q []) i no_arc)
-arc_fits m q i wf l = wf.arcs q i (get_or (get_or m.arcs q []) i no_arc) (slice_get-get_or (get_or m.arcs q []) i no_arc l)
 
 pub loop-arc-init : goal.loop-arc-init
 loop-arc-init g c =
@@ -42,6 +35,7 @@ loop-arc-init g c =
       ready = c.spread_silently.ensures.ready;
       known = subst (λ cs. IsKnown cs c.args.tuple.now) (sym same) c.requires.known;
       on = c.in_ok-spread_silently.ensures.on;
+      pays = c.in_ok-spread_silently.ensures.pays;
     }
 
 pub spread_along-requires-clause-label : goal.spread_along-requires-clause-label
@@ -86,6 +80,8 @@ loop-arc-preserved g c =
       ready = c.spread_along.ensures.ready;
       known = subst (λ cs. IsKnown cs c.args.tuple.now) (sym after) c.loop-arc.invariant.known;
       on = g.met.X.Expander.on_again c.args.x.now c.loop-arc.x c.spread_along.new.x c.loop-arc.invariant.on c.in_ok-spread_along.ensures.on;
+      pays = pays_then c.args.source.now c.args.state c.args.tuple.now (g.X.Expander.calls c.args.x.now) (g.X.Expander.calls c.loop-arc.x) (g.X.Expander.calls c.spread_along.new.x) c.args.search.now.nodes b.nodes d.nodes c.loop-arc.invariant.pays
+          (c.in_ok-spread_along.ensures.pays c.args.source.now c.args.state i (arc_in c.args.source.now c.args.state i row c.arcs_of-arc-items.ensures.value c.loop-arc-test.true));
     }
 
 pub returns-clause-gained : goal.returns-clause-gained
@@ -110,3 +106,6 @@ returns-clause-gained g c = λ e k h.
 
 pub returns-clause-on : goal.returns-clause-on
 returns-clause-on g c = g.met.X.Expander.on_again c.args.x.now c.loop-arc.x c.spread_to_end.new.x c.loop-arc.invariant.on c.in_ok-spread_to_end.ensures.on
+
+pub returns-clause-pays : goal.returns-clause-pays
+returns-clause-pays g c = pays_then c.args.source.now c.args.state c.args.tuple.now (g.X.Expander.calls c.args.x.now) (g.X.Expander.calls c.loop-arc.x) (g.X.Expander.calls c.spread_to_end.new.x) c.args.search.now.nodes c.loop-arc.search.nodes c.spread_to_end.new.search.nodes c.loop-arc.invariant.pays c.in_ok-spread_to_end.ensures.pays

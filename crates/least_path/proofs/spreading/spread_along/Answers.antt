@@ -15,6 +15,7 @@ use Rattle.least_path.specs.Ending.{CanEnd}
 use Rattle.least_path.proofs.Meeting.{gained_as, gained_growth, gained_of}
 use Rattle.least_path.proofs.Passing.{stays_passed}
 use Rattle.least_path.proofs.Along.{moves_as, along_zero, along_some}
+use Rattle.least_path.proofs.Paying.{adds_at, adds_met, pays_along, pays_silently, risen_call}
 use Rattle.least_path.proofs.spreading.spread_along.Goals as goal
 
 pub returns-then-arc-eq0-clause-gained : goal.returns-then-arc-eq0-clause-gained
@@ -42,3 +43,17 @@ spread_moves-requires-clause-moves g c = λ d k h.
     let among = subst (λ cs. Contains cs d) same k in
     let closed = tuples_are_closed d (All-contains IsSound (g.X.Expander.cascades c.args.x.now) d (g.met.X.Expander.sound c.args.x.now c.requires.ready) among) in
     subst (All (λ a. IsOf d (next_of c.args.tuple.now a))) (sym c.deref.ensures.value) (moves_known d closed c.args.tuple.now c.args.arc.now.input c.arcs_on.new.into.items h (c.in_ok-arcs_on.ensures.arcs d among h))
+
+pub returns-then-arc-eq0-clause-pays : goal.returns-then-arc-eq0-clause-pays
+returns-then-arc-eq0-clause-pays g c = λ m q place is.
+    let a = c.args.search.now in
+    let b = c.relax.new.self in
+    let arc = c.args.arc.now in
+    let t = c.args.tuple.now in
+    pays_silently m q t (g.X.Expander.calls c.args.x.now) a.nodes b.nodes place arc is c.if-arc-eq0.true (adds_at arc.next t a.nodes b.nodes (adds_met a b (At arc.next t) c.args.from.now.weight 0 (text_of a.outputs c.args.from.now.output) [] c.in_ok-relax.ensures))
+
+pub returns-clause-pays : goal.returns-clause-pays
+returns-clause-pays g c = λ m q place is.
+    let before = g.X.Expander.calls c.args.x.now in
+    let after = g.X.Expander.calls c.arcs_on.new.self in
+    pays_along m q c.args.tuple.now before after c.args.search.now.nodes c.spread_moves.new.search.nodes place c.args.arc.now is (risen_call before after c.arcs_on.ensures.counted) c.in_ok-spread_moves.ensures.adds

@@ -1,4 +1,4 @@
-use Rattle.std.proofs.Common.{◌≡◌, [], get_or, refl, sym, ap, ◌∙◌, subst, arith}
+use Rattle.std.proofs.Common.{◌≡◌, [], get_or, refl, sym, ap, ◌∙◌, subst, arith, inl}
 use Rattle.std.proofs.lemmas.List.{take_all}
 use Rattle.least_path.specs.declared.node.Node.TheVariants.{At}
 use Rattle.state_tuples.specs.declared.tuples.Tuple.{Tuple}
@@ -15,6 +15,8 @@ use Rattle.least_path.proofs.Letters.{grows_same, grows_text, grows_trans}
 use Rattle.least_path.proofs.Waiters.{fits_grow}
 use Rattle.least_path.proofs.Meeting.{gained_none, gained_growth, gained_at}
 use Rattle.least_path.proofs.Along.{moves_more}
+use Rattle.least_path.specs.Paying.{IsAt}
+use Rattle.least_path.proofs.Paying.{adds_then}
 use Rattle.least_path.proofs.spreading.spread_moves.Goals as goal
 
 abbrev no_move : TupleArc
@@ -25,6 +27,7 @@ loop-a-init g c = record {
   kept = c.requires.kept;
   texts = grows_same c.args.search.now.outputs c.args.search.now.outputs refl;
   gained = λ d k h. gained_none (Passes (Steps c.args.source.now d)) (CanEnd c.args.source.now d) c.args.search.now c.args.from.now.weight (text_of c.args.search.now.outputs c.args.from.now.output) (AlongMoves c.args.state c.args.tuple.now []) c.requires.kept (λ n u z e l. omega (arith, e.1.1));
+  adds = λ k v at. inl at;
 }
 
 pub loop-a-preserved-then-is_dead : goal.loop-a-preserved-then-is_dead
@@ -38,6 +41,7 @@ loop-a-preserved-then-is_dead g c =
       texts = c.loop-a.invariant.texts;
       gained = λ d k h. moves_more (gained_growth (Passes (Steps c.args.source.now d)) (CanEnd c.args.source.now d) c.args.from.now.weight y) a b b c.args.state c.args.tuple.now c.args.moves.now c.loop-a.a-index no_move c.loop-a-test.true (c.loop-a.invariant.gained d k h)
           (gained_none (Passes (Steps c.args.source.now d)) (CanEnd c.args.source.now d) b c.args.from.now.weight y (IsEdge (At c.args.state (next_of c.args.tuple.now m)) m.weight (label m.output [])) c.loop-a.invariant.kept (λ n u z e l. c.is_dead.ensures c.if-is_dead.true d k (ap (λ (t : Tuple). t.cascade) c.next_tuple-next.ensures ∙ h.number) (subst (CanEnd c.args.source.now d) (e.0 ∙ ap (At c.args.state) (sym c.next_tuple-next.ensures)) l)));
+      adds = c.loop-a.invariant.adds;
     }
 
 -- the move at the loop's place leads to a known tuple
@@ -65,6 +69,7 @@ loop-a-preserved g c =
       texts = grows_trans c.args.search.now.outputs c.loop-a.search.outputs c.meet_along.new.search.outputs c.loop-a.invariant.texts c.in_ok-meet_along.ensures.texts;
       gained = λ d k h. moves_more (gained_growth (Passes (Steps c.args.source.now d)) (CanEnd c.args.source.now d) w y) a b e c.args.state c.args.tuple.now c.args.moves.now c.loop-a.a-index no_move c.loop-a-test.true (c.loop-a.invariant.gained d k h)
           (gained_at (Passes (Steps c.args.source.now d)) (CanEnd c.args.source.now d) b e w y (text_of c.loop-a.search.outputs c.args.from.now.output) same (c.in_ok-meet_along.ensures.gained d k h));
+      adds = adds_then (IsAt c.args.state) a.nodes b.nodes e.nodes c.loop-a.invariant.adds c.in_ok-meet_along.ensures.adds;
     }
 
 pub returns-clause-gained : goal.returns-clause-gained

@@ -13,6 +13,7 @@ use Rattle.least_path.specs.Growths.{AlongMoves, Steps}
 use Rattle.least_path.proofs.Meeting.{gained_none, gained_growth}
 use Rattle.least_path.proofs.Along.{moves_as}
 use Rattle.least_path.proofs.Going.{moves_known}
+use Rattle.least_path.proofs.Paying.{pays_none, pays_staying, risen_call, risen_less, risen_self}
 use Rattle.least_path.proofs.spreading.spread_silently.Goals as goal
 
 pub spread_moves-requires-clause-moves : goal.spread_moves-requires-clause-moves
@@ -34,3 +35,14 @@ returns-in-Reads-clause-gained g c = λ e k h.
     let none : moves_on e c.args.tuple.now 0 ≡ [] = subst (IsOnward e c.args.tuple.now) c.in-Reads.is (c.onward.ensures.told e k h) in
     gained_none (Passes (Steps c.args.source.now e)) (CanEnd c.args.source.now e) c.args.search.now c.args.from.now.weight (text_of c.args.search.now.outputs c.args.from.now.output) (AlongMoves c.args.state c.args.tuple.now (moves_on e c.args.tuple.now 0)) c.requires.kept
     (λ n u z o l. (let empty : Contains [] o.0 = subst (λ ms. Contains ms o.0) none o.1 in omega (arith, empty.1)))
+
+pub returns-clause-pays : goal.returns-clause-pays
+returns-clause-pays g c =
+    let before = g.X.Expander.calls c.args.x.now in
+    let after = g.X.Expander.calls c.arcs_on.new.self in
+    pays_staying c.args.source.now c.args.state c.args.tuple.now before after c.args.search.now.nodes c.spread_moves.new.search.nodes (risen_less 1 0 before after (omega arith) (risen_call before after c.arcs_on.ensures.counted)) c.in_ok-spread_moves.ensures.adds
+
+pub returns-in-Reads-clause-pays : goal.returns-in-Reads-clause-pays
+returns-in-Reads-clause-pays g c =
+    let calls = g.X.Expander.calls c.args.x.now in
+    pays_none c.args.source.now c.args.state c.args.tuple.now calls calls c.args.search.now.nodes (risen_self calls)

@@ -1,5 +1,6 @@
 use Rattle.shared_cascade.specs.Callers.{cascades_in}
 use Rattle.shared_cascade.specs.HandLaws.{own_numbers}
+use Rattle.normaliser.proofs.Looking.{looked_still}
 use Rattle.normaliser.proofs.Searchings.{err_stopped, still_after, writes_bytes}
 use Rattle.normaliser.proofs.searching.least_by.Goals as goal
 
@@ -13,3 +14,6 @@ returns-clause-still c = still_after _ _ c.least.result c.least.ensures.on c.lea
 
 pub returns-clause-stopped : goal.returns-clause-stopped
 returns-clause-stopped c = err_stopped _ _ c.least.result c.least.ensures.up
+
+pub returns-clause-looks : goal.returns-clause-looks
+returns-clause-looks c = looked_still _ _ c.args.source.now c.least.result (still_after _ _ c.least.result c.least.ensures.on c.least.ensures.up) c.least.ensures.calls

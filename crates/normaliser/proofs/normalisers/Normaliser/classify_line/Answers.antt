@@ -1,4 +1,4 @@
-use Rattle.std.proofs.Common.{◌≡◌, ℕ, Err, None, Some, Option, Vec, arith, rules, subst}
+use Rattle.std.proofs.Common.{◌≡◌, ℕ, Err, Option, Vec, arith, rules, subst}
 use Rattle.std.specs.declared.alloc.Global.{Global}
 use Rattle.std.proofs.lemmas.Grind.{common_steps}
 use Rattle.normaliser.specs.declared.normalisers.Spoken.{Spoken}
@@ -6,6 +6,9 @@ use Rattle.normaliser.specs.Loads.{classifier_of}
 use Rattle.normaliser.specs.Parts.{IsOutput}
 use Rattle.normaliser.proofs.LineAnswers.{empty_classified, found_classified, lost_classified, nothing, searched, unsearched_said}
 use Rattle.normaliser.proofs.Searchings.{did_with, searched_none}
+use Rattle.std.specs.Prelude.{IfSome}
+use Rattle.normaliser.specs.Searches.{LooksThrough}
+use Rattle.normaliser.proofs.Looking.{not_empty, not_read, not_unsearched}
 use Rattle.normaliser.proofs.normalisers.Normaliser.classify_line.Goals as goal
 
 pub returns-then-is_empty-clause-said : goal.returns-then-is_empty-clause-said
@@ -38,3 +41,15 @@ returns-in-None-clause-kept c = λ lost. absurd (lost (searched c.args.line.now 
 
 pub returns-in_err-words-clause-kept : goal.returns-in_err-words-clause-kept
 returns-in_err-words-clause-kept c = λ lost. absurd (lost (searched c.args.line.now (search rules) c.in_default.ensures.no_zero c.in_default.ensures.short))
+
+pub returns-then-is_empty-clause-looks : goal.returns-then-is_empty-clause-looks
+returns-then-is_empty-clause-looks c = λ searched. absurd (not_empty c.args.line.now (first_of (search rules, grind (arith, common_steps))) searched)
+
+pub returns-in-Some-clause-looks : goal.returns-in-Some-clause-looks
+returns-in-Some-clause-looks c = λ searched. absurd (not_unsearched c.args.line.now c.in-Some.fault c.in-Some.ensures.fault searched)
+
+pub returns-in-Some-2-clause-looks : goal.returns-in-Some-2-clause-looks
+returns-in-Some-2-clause-looks c = λ searched read had. subst (λ (o : Option (Vec ℕ Global)). IfSome o (λ _. LooksThrough c.args.self.now.shared c.args.caller.now c.classified.new.caller c.args.line.now)) c.in-Some-2.is c.in_ok-words.ensures.looks
+
+pub returns-in-None-clause-looks : goal.returns-in-None-clause-looks
+returns-in-None-clause-looks c = λ searched read. absurd (not_read (classifier_of c.args.self.now) c.args.line.now (subst (λ (o : Option (Vec ℕ Global)). IsOutput (classifier_of c.args.self.now) (λ x. x ≡ c.args.line.now) o) c.in-None.is c.in_ok-words.ensures.output) read)

@@ -10,6 +10,7 @@ use Rattle.normaliser.specs.Loads.{classifier_of, verbaliser_of}
 use Rattle.normaliser.proofs.LineAnswers.{nothing}
 use Rattle.normaliser.proofs.Sayings.{empty_said, found_as, no_tokens_said, tokens_said, unclassified_said, unsaid}
 use Rattle.normaliser.proofs.Searchings.{did_after, did_with, searched_more, searched_none}
+use Rattle.normaliser.proofs.Looking.{did_search, looked_before, not_empty}
 use Rattle.normaliser.proofs.normalisers.Normaliser.speak_line.Goals as goal
 
 pub returns-then-is_empty-clause-said : goal.returns-then-is_empty-clause-said
@@ -75,3 +76,22 @@ returns-clause-kept c =
     let text = c.deref.result.now in
     let found = found_as (classifier_of c.args.self.now) c.args.line.now text c.in_ok-text.field-0.words.items c.deref.ensures.value (search rules) c.in_ok-text.ensures.said in
     λ lost. absurd (lost found.searched)
+
+pub returns-then-is_empty-clause-looks : goal.returns-then-is_empty-clause-looks
+returns-then-is_empty-clause-looks c = λ searched. absurd (not_empty c.args.line.now (first_of (search rules, grind (arith, common_steps))) searched)
+
+pub returns-in_err-text-clause-looks : goal.returns-in_err-text-clause-looks
+returns-in_err-text-clause-looks c =
+    let p = err_from_is_err_and c.from_residual.result c.from_residual.ensures.1 in
+    rw (p.1, p.2) c.in_err-text.ensures.looks
+
+pub returns-in_err-tokens-clause-looks : goal.returns-in_err-tokens-clause-looks
+returns-in_err-tokens-clause-looks c = λ searched read had. c.in_ok-text.ensures.looks searched read tt
+
+pub returns-in_err-words-clause-looks : goal.returns-in_err-words-clause-looks
+returns-in_err-words-clause-looks c =
+    let p = err_from_is_err_and c.from_residual-in_err-words.result c.from_residual-in_err-words.ensures.1 in
+    rw (p.1, p.2) (λ searched read had. looked_before c.args.self.now.shared c.args.caller.now c.classify_line.new.caller c.words_of.new.caller c.args.line.now (c.in_ok-text.ensures.looks searched read tt) (did_search (Vec ℕ Global) Spoken c.args.self.now.shared c.classify_line.new.caller c.words_of.new.caller c.in_err-words.field-0.0 c.in_err-words.ensures.searched had))
+
+pub returns-clause-looks : goal.returns-clause-looks
+returns-clause-looks c = λ searched read had. looked_before c.args.self.now.shared c.args.caller.now c.classify_line.new.caller c.words_of.new.caller c.args.line.now (c.in_ok-text.ensures.looks searched read tt) c.in_ok-words.ensures.searched
