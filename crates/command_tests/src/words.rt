@@ -5,7 +5,7 @@ use std::alloc::{AllocError, Global};
 use std::test::Fail;
 
 // The words after the program's name, and what they ask for.
-const ROWS: [(&[&str], &str); 72] = [
+const ROWS: [(&[&str], &str); 59] = [
     // Each option given, missing, repeated, without its value and misspelt.
     (&["--setup", "s"], "speak s"),
     (&[], "refused"),
@@ -72,29 +72,6 @@ const ROWS: [(&[&str], &str); 72] = [
     (&["--mode", "sample", "--count", "-3"], "refused"),
     (&["--mode", "sample", "--count", "three"], "refused"),
     (&["--mode", "sample", "--count", ""], "refused"),
-    // How it is done.
-    (&["--setup", "s", "--places", "0"], "refused"),
-    (&["--setup", "s", "--places", "1"], "speak s, 1 places"),
-    (
-        &["--setup", "s", "--places", "4096"],
-        "speak s, 4096 places",
-    ),
-    (&["--setup", "s", "--places", "256"], "speak s"),
-    (&["--setup", "s", "--places", "4097"], "refused"),
-    (&["--setup", "s", "--places"], "refused"),
-    (
-        &["--setup", "s", "--places", "7", "--places", "7"],
-        "refused",
-    ),
-    (&["--setup", "s", "--places=seven"], "refused"),
-    (&["--setup", "s", "--report"], "speak s, with a report"),
-    (
-        &["--report", "--mode=sample"],
-        "sample 1000 1, with a report",
-    ),
-    (&["--setup", "s", "--report", "--report"], "refused"),
-    (&["--setup", "s", "--report=true"], "refused"),
-    (&["--setup", "s", "--report", "true"], "refused"),
     // With `=`, and empty values.
     (&["--mode=sample", "--count=3", "--start=4"], "sample 3 4"),
     (&["--setup=s"], "speak s"),
@@ -113,6 +90,52 @@ const ROWS: [(&[&str], &str); 72] = [
     (&["-h"], "refused"),
     (&["help"], "refused"),
     (&["--version"], "refused"),
+];
+
+// And how it is to be done.
+const HOW_ROWS: [(&[&str], &str); 27] = [
+    (&["--setup", "s", "--places", "0"], "refused"),
+    (&["--setup", "s", "--places", "1"], "speak s, 1 places"),
+    (
+        &["--setup", "s", "--places", "4096"],
+        "speak s, 4096 places",
+    ),
+    (&["--setup", "s", "--places", "256"], "speak s"),
+    (&["--setup", "s", "--places", "4097"], "refused"),
+    (&["--setup", "s", "--places"], "refused"),
+    (
+        &["--setup", "s", "--places", "7", "--places", "7"],
+        "refused",
+    ),
+    (&["--setup", "s", "--places=seven"], "refused"),
+    (&["--setup", "s", "--jobs", "0"], "refused"),
+    (&["--setup", "s", "--jobs", "1"], "speak s"),
+    (&["--setup", "s", "--jobs", "63"], "speak s, 63 jobs"),
+    (&["--setup", "s", "--jobs", "64"], "refused"),
+    (&["--setup", "s", "--jobs"], "refused"),
+    (&["--setup", "s", "--jobs", "2", "--jobs", "2"], "refused"),
+    (&["--setup", "s", "--jobs=two"], "refused"),
+    (&["--setup", "s", "--sweep", "0"], "speak s"),
+    (
+        &["--setup", "s", "--sweep", "10000"],
+        "speak s, 10000 rounds",
+    ),
+    (&["--setup", "s", "--sweep", "10001"], "refused"),
+    (&["--setup", "s", "--sweep", "-1"], "refused"),
+    (&["--setup", "s", "--sweep"], "refused"),
+    (&["--setup", "s", "--sweep=1", "--sweep=1"], "refused"),
+    (
+        &["--mode=sample", "--sweep=1", "--jobs=8", "--places=1"],
+        "sample 1000 1, 1 places, 8 jobs, 1 rounds",
+    ),
+    (&["--setup", "s", "--report"], "speak s, with a report"),
+    (
+        &["--report", "--mode=sample"],
+        "sample 1000 1, with a report",
+    ),
+    (&["--setup", "s", "--report", "--report"], "refused"),
+    (&["--setup", "s", "--report=true"], "refused"),
+    (&["--setup", "s", "--report", "true"], "refused"),
 ];
 
 fn words_of(alloc: Global, all: &[&str]) -> Result<Vec<String>, AllocError> {
@@ -134,9 +157,20 @@ fn told(alloc: Global, asked: Option<Asked<'_>>) -> Result<String, AllocError> {
         Mode::Check { setup } => format!(in alloc; "check {setup}"),
         Mode::Sample { count, start } => format!(in alloc; "sample {count} {start}"),
     }?;
-    let Settings { places, report } = asked.settings;
+    let Settings {
+        places,
+        jobs,
+        sweep,
+        report,
+    } = asked.settings;
     if places != 256 {
         text.push_str(&format!(in alloc; ", {places} places")?)?;
+    }
+    if jobs != 1 {
+        text.push_str(&format!(in alloc; ", {jobs} jobs")?)?;
+    }
+    if sweep != 0 {
+        text.push_str(&format!(in alloc; ", {sweep} rounds")?)?;
     }
     if report {
         text.push_str(", with a report")?;
@@ -148,6 +182,17 @@ fn told(alloc: Global, asked: Option<Asked<'_>>) -> Result<String, AllocError> {
 fn asks(rt: HostRuntime) -> Result<(), Fail> {
     let alloc = rt.alloc();
     for (row, (given, wanted)) in ROWS.iter().enumerate() {
+        let words = words_of(alloc, *given)?;
+        let told = told(alloc, read_words(alloc, &words)?)?;
+        assert_eq!(rt; told.as_str(), *wanted, "in row {row}");
+    }
+    Ok(())
+}
+
+#[test]
+fn asks_how(rt: HostRuntime) -> Result<(), Fail> {
+    let alloc = rt.alloc();
+    for (row, (given, wanted)) in HOW_ROWS.iter().enumerate() {
         let words = words_of(alloc, *given)?;
         let told = told(alloc, read_words(alloc, &words)?)?;
         assert_eq!(rt; told.as_str(), *wanted, "in row {row}");

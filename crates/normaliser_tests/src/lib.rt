@@ -5,8 +5,14 @@
 #![tactic(auto)]
 
 #[cfg(test)]
+mod beside;
+#[cfg(test)]
 mod faults;
 #[cfg(test)]
 mod lines;
 #[cfg(test)]
 mod rules;
+#[cfg(test)]
+mod stopping;
+#[cfg(test)]
+mod toy;

@@ -353,7 +353,10 @@ fn a_look_for_each_byte(rt: HostRuntime) -> Result<(), Fail> {
 }
 
 /// What is answered, as text.
-fn told(alloc: Global, answer: &Result<Spoken, LineFault>) -> Result<Vec<u8>, AllocError> {
+pub(crate) fn told(
+    alloc: Global,
+    answer: &Result<Spoken, LineFault>,
+) -> Result<Vec<u8>, AllocError> {
     let mut text = Vec::new(alloc);
     match answer {
         Ok(spoken) => {

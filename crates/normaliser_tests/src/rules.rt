@@ -74,29 +74,26 @@ fn rules(alloc: Global, grammars: &[&str]) -> Result<Vec<Expr>, Fail>
 {
     let mut rules = Vec::new(alloc);
     for grammar in grammars {
-        let made = rule(alloc, *grammar)?;
+        let made = rule(alloc, grammar.as_bytes(), "MAIN")?;
         rules.push(made)?;
     }
     Ok(rules)
 }
 
-/// The rule that a grammar exports as `MAIN`.
-fn rule(alloc: Global, grammar: &str) -> Result<Expr, Fail>
+/// The rule that a grammar exports under this name.
+pub(crate) fn rule(alloc: Global, grammar: &[u8], exported: &str) -> Result<Expr, Fail>
     ensures { IfOk result (λ e. CanBeBuilt (expression_of e)) }
 {
     let mut files = Vec::new(alloc);
-    files.push((
-        Name::new(alloc, b"g")?,
-        Vec::from_slice(alloc, grammar.as_bytes())?,
-    ))?;
+    files.push((Name::new(alloc, b"g")?, Vec::from_slice(alloc, grammar)?))?;
     let mut shelf = SureShelf::new(alloc, files);
     let name = Name::new(alloc, b"g")?;
     let Ok(grammar) = link(alloc, &mut shelf, &name) else {
         return Err("the grammar is refused")?;
     };
-    let main = Name::new(alloc, b"MAIN")?;
-    let Some(rule) = grammar.rule(&main) else {
-        return Err("no rule MAIN")?;
+    let exported = Name::new(alloc, exported.as_bytes())?;
+    let Some(rule) = grammar.rule(&exported) else {
+        return Err("no such rule")?;
     };
     if rule.is_marked() {
         return Err("a rule with marks")?;

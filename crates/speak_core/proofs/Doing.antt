@@ -1,5 +1,5 @@
 -- From what fits a plan to what its job does, and what work on lines leaves of its devices.
-use Rattle.std.proofs.Common.{◌≡◌, ℕ, List, [], ◌∷◌, None, Some, Ok, Err, Result, Bool, true, false, length, inl, inr, IfSome, IfOk, IfErr, refl, sym, ap, ◌∙◌, subst, Vec, Global, arith}
+use Rattle.std.proofs.Common.{◌≡◌, ◌*◌, ℕ, List, [], ◌∷◌, None, Some, Ok, Err, Result, Bool, true, length, inl, inr, IfSome, IfOk, IfErr, refl, sym, ap, ◌∙◌, subst, Vec, Global, arith}
 use Rattle.std.proofs.KnownBytes.{Appends-nil}
 use Rattle.std.specs.Io.KnownBytes.{Appends}
 use Rattle.std.specs.declared.option.Option.{Option}
@@ -13,7 +13,8 @@ use Rattle.speak_core.specs.Answers.{AllSaid, Tells, written}
 use Rattle.norm_base.specs.Bytes.{AppendsPrefix}
 use Rattle.shared_cascade.specs.Tallies.{no_tally}
 use Rattle.shared_cascade.specs.declared.tallies.Tally.{Tally}
-use Rattle.speak_core.specs.Reports.{if_wanted, total_text}
+use Rattle.speak_core.specs.Reports.{Reporting, batches_of, end_text, if_wanted, no_reporting, swept_sum}
+use Rattle.shared_cascade.specs.declared.sweeping.Swept.{Swept}
 use Rattle.speak_core.specs.Inputs.{IfGaveTooMuch}
 use Rattle.speak_core.specs.Loaded.{FindsPlanned, Planned, SaysOnce}
 use Rattle.speak_core.specs.Outputs.{sample_lines}
@@ -141,9 +142,10 @@ pub where_known : {X : Type 0} (known : Option X) (P : X → Type 0) → ((x : X
 where_known None P f = tt
 where_known (Some x) P f = f x
 
-pub speaks_writes : (P : Saying) (w : Bool) (t : Tally) (all : List (List ℕ)) (out out' err emid err' : Option (List ℕ)) (is_read : Bool) → Speaks P w 1 no_tally t all out out' err emid is_read → (n : ℕ) → n ≡ length all → Appends emid err' (if_wanted w (total_text n t)) → Writes P w all written out out' err err' is_read
-speaks_writes P w t all out out' err emid err' is_read h n counted last =
-    record { answers = h.answers; said = h.said; output = h.words; faults = told_whole P w t all h.answers h.said h.tallies h.tallied h.total err emid err' h.faults n counted last; read = h.read }
+pub speaks_writes : (P : Saying) (w : Reporting) (t : Tally) (all : List (List ℕ)) (out out' err emid err' : Option (List ℕ)) (is_read : Bool) → Speaks P w.wanted 1 no_tally t all out out' err emid is_read → (n : ℕ) → n ≡ length all → (swept : Swept) → swept_sum swept ≡ w.beside * batches_of (length all)
+    → Appends emid err' (if_wanted w.wanted (end_text w.beside n t swept)) → Writes P w all written out out' err err' is_read
+speaks_writes P w t all out out' err emid err' is_read h n counted swept sums last =
+    record { answers = h.answers; said = h.said; output = h.words; faults = told_whole P w t all h.answers h.said h.tallies h.tallied h.total err emid err' h.faults n counted swept sums last; read = h.read }
 
 -- lines that were spoken from no lines on, by what is known of the report
 pub speaks_anew : (P : Saying) (w v : Bool) (s t : Tally) (all : List (List ℕ)) (out out' err err' : Option (List ℕ)) (is_read : Bool) → v ≡ w → s ≡ no_tally → Speaks P v 1 s t all out out' err err' is_read → Speaks P w 1 no_tally t all out out' err err' is_read
@@ -151,8 +153,8 @@ speaks_anew P w v s t all out out' err err' is_read wanted none h =
     subst (λ b. Speaks P b 1 no_tally t all out out' err err' is_read) wanted (subst (λ x. Speaks P v 1 x t all out out' err err' is_read) none h)
 
 -- a front of what may be told of lines before the total
-pub front_until : (P : Saying) (w v : Bool) (all : List (List ℕ)) (old new : Option (List ℕ)) → v ≡ w → ((answers : List Answer) → AllSaid P all answers → TellsSome v 1 all answers old new) → (answers : List Answer) → AllSaid P all answers → AppendsSome (Tells w all answers) old new
-front_until P w v all old new wanted front answers said = subst (λ b. AppendsSome (Tells b all answers) old new) wanted (some_front v all answers old new (front answers said))
+pub front_until : (P : Saying) (w : Reporting) (v : Bool) (all : List (List ℕ)) (old new : Option (List ℕ)) → v ≡ w.wanted → ((answers : List Answer) → AllSaid P all answers → TellsSome v 1 all answers old new) → (answers : List Answer) → AllSaid P all answers → AppendsSome (Tells w all answers) old new
+front_until P w v all old new wanted front answers said = some_front w all answers old new (subst (λ b. TellsSome b 1 all answers old new) wanted (front answers said))
 
 -- the counts where the total isn't told after all lines were
 pub total_counts : (T U : Type 0) (source source' out out' err emid err' : ℕ) (s : Stop) → source' ≡ source → (out' ≡ out) × (emid ≡ err) → Counts {T = T} emid err' (Err s) → IsDeviceStop s → WorkCounts {T = U} source source' out out' err err' (Err s)
@@ -163,22 +165,22 @@ total_counts T U source source' out out' err emid err' Memory read kept told sto
 total_counts T U source source' out out' err emid err' TooLong read kept told stop = absurd stop
 
 -- where the total is cut off, a front of all is told
-pub speaks_until : (P : Saying) (w : Bool) (t : Tally) (all : List (List ℕ)) (out out' err emid err' : Option (List ℕ)) (is_read : Bool) → Speaks P w 1 no_tally t all out out' err emid is_read → SaysOnce P → (n : ℕ) → n ≡ length all → AppendsPrefix emid err' (if_wanted w (total_text n t))
-    → (answers : List Answer) → AllSaid P all answers → AppendsSome (Tells w all answers) err err'
-speaks_until P w t all out out' err emid err' is_read h once n counted last answers said =
-    subst (λ a. AppendsSome (Tells w all a) err err') (said_once P once all h.answers answers h.said said) (told_until P w t all h.answers h.said h.tallies h.tallied h.total err emid err' h.faults n counted last)
+pub speaks_until : (P : Saying) (w : Reporting) (t : Tally) (all : List (List ℕ)) (out out' err emid err' : Option (List ℕ)) (is_read : Bool) → Speaks P w.wanted 1 no_tally t all out out' err emid is_read → SaysOnce P → (n : ℕ) → n ≡ length all → (swept : Swept) → swept_sum swept ≡ w.beside * batches_of (length all)
+    → AppendsPrefix emid err' (if_wanted w.wanted (end_text w.beside n t swept)) → (answers : List Answer) → AllSaid P all answers → AppendsSome (Tells w all answers) err err'
+speaks_until P w t all out out' err emid err' is_read h once n counted swept sums last answers said =
+    subst (λ a. AppendsSome (Tells w all a) err err') (said_once P once all h.answers answers h.said said) (told_until P w t all h.answers h.said h.tallies h.tallied h.total err emid err' h.faults n counted swept sums last)
 
-pub text_writes : (text : List ℕ) (out out' err : Option (List ℕ)) (is_read : Bool) → (is_read ≡ true) × Appends out out' text → Writes SaysNothing false [] (λ answers. text) out out' err err is_read
+pub text_writes : (text : List ℕ) (out out' err : Option (List ℕ)) (is_read : Bool) → (is_read ≡ true) × Appends out out' text → Writes SaysNothing no_reporting [] (λ answers. text) out out' err err is_read
 text_writes text out out' err is_read h = record {
   answers = [];
   said = tt;
   output = h.1;
-  faults = record { text = []; is = record { tallies = []; tallied = tt; is = refl }; whole = Appends-nil err };
+  faults = record { text = []; is = record { tallies = []; tallied = tt; swept = record { done = 0; was = 0 }; sums = omega arith; is = refl }; whole = Appends-nil err };
   read = h.0;
 }
 
 -- the sizes of rules were written, and nothing is told
-pub checked_writes : (w : Work) (text : Vec ℕ Global) (report : Bool) (left : Option (List ℕ)) (bytes : List ℕ) (out out' err : Option (List ℕ)) (r : Result Bool Stop) → w ≡ Checked text → bytes ≡ text.items → IfOk r (λ is_read. (is_read ≡ true) × Appends out out' bytes)
+pub checked_writes : (w : Work) (text : Vec ℕ Global) (report : Reporting) (left : Option (List ℕ)) (bytes : List ℕ) (out out' err : Option (List ℕ)) (r : Result Bool Stop) → w ≡ Checked text → bytes ≡ text.items → IfOk r (λ is_read. (is_read ≡ true) × Appends out out' bytes)
     → IfSome left (λ input. IfOk r (Writes (work_says w) (work_reports w report) (work_lines w input) (work_text w) out out' err err))
 checked_writes w text report None bytes out out' err r is same h = tt
 checked_writes w text report (Some input) bytes out out' err (Ok is_read) is same h =

@@ -7,6 +7,7 @@ use Rattle.norm_base.specs.Files.{Files}
 use Rattle.speak_core.specs.Outputs.{lines_for, out_text, reads_input, reports_for}
 use Rattle.speak_core.specs.Accepted.{Accepted, Asks, IsRefusal, OrText, Refused as Refuses}
 use Rattle.speak_core.specs.Requests.{job_in, settings_in}
+use Rattle.speak_core.specs.Reports.{no_reporting, reporting_of}
 use Rattle.speak_core.specs.Inputs.{GaveMore, GaveTooMuch, IfGaveTooMuch}
 use Rattle.speak_core.specs.Loaded.{StopsAs}
 use Rattle.speak_core.specs.Owed.{Owed, SpeaksAll, SpeaksInput, Spoke, Told, spoke_nothing}
@@ -194,7 +195,7 @@ speaks_at words d err r b is done kept = go d.before.shelf.files d.before.source
   go (Some files) (Some input) s = record {
     plan = s.plan;
     accepted = s.accepted;
-    writes = subst (λ held. Writes (saying_of s.plan) (reports_for s.accepted.job (settings_in words).report) (lines_for s.accepted.job input) (out_text s.accepted.job s.plan) d.before.out.held d.after.out.held d.before.err.held held b) (sym same) s.writes;
+    writes = subst (λ held. Writes (saying_of s.plan) (reports_for s.accepted.job (reporting_of (settings_in words))) (lines_for s.accepted.job input) (out_text s.accepted.job s.plan) d.before.out.held d.after.out.held d.before.err.held held b) (sym same) s.writes;
   }
 
 -- what is known of a run that stopped
@@ -240,7 +241,7 @@ tells_last n old mid new spoke t is other told later lines = record {
 
 -- nothing was told of lines
 told_none : (old mid : Option (List ℕ)) → mid ≡ old → AppendsSome (Told spoke_nothing) old mid
-told_none old mid same = subst (λ m. AppendsSome (Told spoke_nothing) old m) (sym same) (some_none false [] [] old)
+told_none old mid same = subst (λ m. AppendsSome (Told spoke_nothing) old m) (sym same) (some_none no_reporting [] [] old)
 
 -- after a refusal nothing else stands in the errors
 pub told_words : (r : Result Bool Stop) (n : ℕ) (old mid new : SinkSeen) → IsEnd n r → IfErr r (λ s. TellsStop n mid new s) → n ≡ 2 → old.faults ≤ mid.faults → mid.held ≡ old.held → TellsLast old new spoke_nothing (text_of Words)

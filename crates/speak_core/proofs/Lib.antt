@@ -9,3 +9,6 @@ pub mod RuleLines
 pub mod Doing
 pub mod Runs
 pub mod Endings
+pub mod Dealing
+pub mod Sent
+pub mod Sweeping

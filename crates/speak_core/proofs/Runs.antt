@@ -12,6 +12,7 @@ use Rattle.normaliser.specs.Lines.{Answer}
 use Rattle.speak_core.specs.Accepted.{Accepted, Asks, IsOnly, JobAsks, OrText, Refused}
 use Rattle.speak_core.specs.Answers.{AllSaid, Tells}
 use Rattle.speak_words.specs.declared.asked.Settings.{Settings}
+use Rattle.speak_core.specs.Reports.{Reporting, reporting_of}
 use Rattle.speak_core.specs.Requests.{job_in, settings_in}
 use Rattle.speak_core.specs.Devices.{Observed}
 use Rattle.speak_core.specs.Loaded.{Planned, StopsAs}
@@ -64,11 +65,11 @@ module _ (words : List (String Global)) (job : Job) (is_job : Some job ≡ job_i
         owed_output output spoke front (nothing none) = absurd (none l.plan accepted)
         owed_output output spoke front (of_job plan answers a said) = subst (AppendsPrefix old new) (same_text plan answers a) (front answers (by_its_work input plan answers a said))
 
-        owed_told : (report : Bool) → (settings_in words).report ≡ report → (output : List ℕ) (spoke : Spoke) → ((answers : List Answer) → AllSaid (work_says w) (work_lines w input) answers → AppendsSome (Tells (work_reports w report) (work_lines w input) answers) old new)
+        owed_told : (report : Reporting) → reporting_of (settings_in words) ≡ report → (output : List ℕ) (spoke : Spoke) → ((answers : List Answer) → AllSaid (work_says w) (work_lines w input) answers → AppendsSome (Tells (work_reports w report) (work_lines w input) answers) old new)
             → Owed words files input output spoke → AppendsSome (Told spoke) old new
         owed_told report wants output spoke front (nothing none) = absurd (none l.plan accepted)
         owed_told report wants output spoke front (of_job plan answers a said) =
-            let reports : work_reports w report ≡ reports_for a.job (settings_in words).report = l.fits.reports report ∙ (ap (λ j. reports_for j report) (sym (same_job files (Ok plan) a)) ∙ ap (reports_for a.job) (sym wants)) in
+            let reports : work_reports w report ≡ reports_for a.job (reporting_of (settings_in words)) = l.fits.reports report ∙ (ap (λ j. reports_for j report) (sym (same_job files (Ok plan) a)) ∙ ap (reports_for a.job) (sym wants)) in
             let lines : work_lines w input ≡ lines_for a.job input = l.fits.lines input ∙ ap (λ j. lines_for j input) (sym (same_job files (Ok plan) a)) in
             subst (λ r. AppendsSome (Tells r (lines_for a.job input) answers) old new) reports
             (subst (λ x. AppendsSome (Tells (work_reports w report) x answers) old new) lines (front answers (by_its_work input plan answers a said)))
@@ -80,14 +81,14 @@ module _ (words : List (String Global)) (job : Job) (is_job : Some job ≡ job_i
     run_output old new (Some files) None l front = tt
     run_output old new (Some files) (Some input) l front = λ output spoke. owed_output files l old new input output spoke front
 
-    pub run_told : (report : Bool) → (settings_in words).report ≡ report → (old new : Option (List ℕ)) (known : Option Files) (left : Option (List ℕ)) → IfSome known (λ files. Planned (Does job) (JobAsks files job) w)
+    pub run_told : (report : Reporting) → reporting_of (settings_in words) ≡ report → (old new : Option (List ℕ)) (known : Option Files) (left : Option (List ℕ)) → IfSome known (λ files. Planned (Does job) (JobAsks files job) w)
         → IfSome left (λ input. (answers : List Answer) → AllSaid (work_says w) (work_lines w input) answers → AppendsSome (Tells (work_reports w report) (work_lines w input) answers) old new)
         → IfSome known (λ files. IfSome left (λ input. (output : List ℕ) (spoke : Spoke) → Owed words files input output spoke → AppendsSome (Told spoke) old new))
     run_told report wants old new None left l front = tt
     run_told report wants old new (Some files) None l front = tt
     run_told report wants old new (Some files) (Some input) l front = λ output spoke. owed_told files l old new input report wants output spoke front
 
-    all_spoken : (report : Bool) → (settings_in words).report ≡ report → (known : Option Files) (left : Option (List ℕ)) (d : Observed) (is_read : Bool) → IfSome known (λ files. Planned (Does job) (JobAsks files job) w)
+    all_spoken : (report : Reporting) → reporting_of (settings_in words) ≡ report → (known : Option Files) (left : Option (List ℕ)) (d : Observed) (is_read : Bool) → IfSome known (λ files. Planned (Does job) (JobAsks files job) w)
         → IfSome left (λ input. Writes (work_says w) (work_reports w report) (work_lines w input) (work_text w) d.before.out.held d.after.out.held d.before.err.held d.after.err.held is_read)
         → IfSome known (λ files. IfSome left (λ input. SpeaksInput words d is_read files input))
     all_spoken report wants None left d is_read l h = tt
@@ -109,7 +110,7 @@ module _ (words : List (String Global)) (job : Job) (is_job : Some job ≡ job_i
     written_of None P is_read h = tt
     written_of (Some input) P is_read h = h
 
-    pub run_speaks : (report : Bool) → (settings_in words).report ≡ report → (known : Option Files) (left : Option (List ℕ)) (d : Observed) (r : Result Bool Stop) → IfSome known (λ files. Planned (Does job) (JobAsks files job) w)
+    pub run_speaks : (report : Reporting) → reporting_of (settings_in words) ≡ report → (known : Option Files) (left : Option (List ℕ)) (d : Observed) (r : Result Bool Stop) → IfSome known (λ files. Planned (Does job) (JobAsks files job) w)
         → IfSome left (λ input. IfOk r (Writes (work_says w) (work_reports w report) (work_lines w input) (work_text w) d.before.out.held d.after.out.held d.before.err.held d.after.err.held))
         → IfOk r (λ is_read. IfSome known (λ files. IfSome left (λ input. SpeaksInput words d is_read files input)))
     run_speaks report wants known left d (Ok is_read) l h = all_spoken report wants known left d is_read l (written_of left (λ input. Writes (work_says w) (work_reports w report) (work_lines w input) (work_text w) d.before.out.held d.after.out.held d.before.err.held d.after.err.held) is_read h)
@@ -164,8 +165,8 @@ run_ends words job is_job reads now (Ok x) same end = of_words words job is_job 
 run_ends words job is_job reads now (Err s) same end = tt
 
 -- and how it is wanted
-pub found_report : {A : Type 0} (f : A → Settings) (s : Settings) (o : Option A) (a : A) → o ≡ Some a → IfSome o (λ x. f x ≡ s) → s.report ≡ (f a).report
-found_report f s o a is e = let own : f a ≡ s = subst (λ q. IfSome q (λ x. f x ≡ s)) is e in ap (λ (t : Settings). t.report) (sym own)
+pub found_report : {A : Type 0} (f : A → Settings) (s : Settings) (o : Option A) (a : A) → o ≡ Some a → IfSome o (λ x. f x ≡ s) → reporting_of s ≡ reporting_of (f a)
+found_report f s o a is e = let own : f a ≡ s = subst (λ q. IfSome q (λ x. f x ≡ s)) is e in ap reporting_of (sym own)
 
 -- the job that was read
 pub found_job : {A : Type 0} (f : A → Job) (o : Option A) (a : A) {x : Option Job} → o ≡ Some a → option_map f o ≡ x → Some (f a) ≡ x

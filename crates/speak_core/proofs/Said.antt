@@ -1,5 +1,5 @@
 -- What lines say: each says one thing, and more lines say more.
-use Rattle.std.proofs.Common.{◌≡◌, ℕ, ◌+◌, suc, List, [], ◌∷◌, ◌++◌, Bool, true, ◌&&◌, length, map, refl, sym, ap, ◌∙◌, subst, append_assoc, append-nil, arith}
+use Rattle.std.proofs.Common.{◌≡◌, ℕ, ◌+◌, ◌*◌, suc, List, [], ◌∷◌, ◌++◌, Bool, true, ◌&&◌, length, map, refl, sym, ap, ◌∙◌, subst, append_assoc, append-nil, arith}
 use Rattle.std.proofs.KnownBytes.{Appends-nil, Appends-trans}
 use Rattle.std.proofs.lemmas.List.Folds.{list_all-append}
 use Rattle.std.specs.Io.KnownBytes.{Appends}
@@ -13,8 +13,9 @@ use Rattle.weighted_relations.specs.RelationLaws.{same_sym}
 use Rattle.weighted_relations.specs.Relations.{Relation, Same}
 use Rattle.speak_core.specs.Answers.{AllSaid, Tells, all_read, is_read, line_text, told, told_all, words_text, written}
 use Rattle.shared_cascade.specs.Tallies.{no_tally}
+use Rattle.shared_cascade.specs.declared.sweeping.Swept.{Swept}
 use Rattle.shared_cascade.specs.declared.tallies.Tally.{Tally}
-use Rattle.speak_core.specs.Reports.{AllTallied, if_wanted, total_text, with_tallies, with_tally}
+use Rattle.speak_core.specs.Reports.{AllTallied, Reporting, batches_of, end_text, if_wanted, swept_sum, with_tallies, with_tally}
 use Rattle.speak_core.specs.Loaded.{SaySame, SaysOnce}
 use Rattle.speak_core.specs.Parts.{AppendsOne, AppendsSome, Speaks, TellsSome, says_of}
 use Rattle.speak_core.specs.Plans.{says_in}
@@ -192,37 +193,45 @@ module _ (P : Saying) where
               (prefix_then err emid err' (told w n h.front ts) (told w m h.back f.tallies) wrote f.front);
         }
 
--- after the last line the total is told
-module _ (P : Saying) (w : Bool) (t : Tally) (all : List (List ℕ)) (answers : List Answer) (said : AllSaid P all answers) (tallies : List Tally) (tallied : AllTallied all tallies) (total : t ≡ with_tallies no_tally tallies) (old mid new : Option (List ℕ)) (faults : Appends old mid (told w 1 answers tallies)) (n : ℕ) (counted : n ≡ length all) where
-  total_is : if_wanted w (total_text n t) ≡ if_wanted w (total_text (length answers) (with_tallies no_tally tallies))
-  total_is = ap (λ k. if_wanted w (total_text k t)) (counted ∙ sym (said_count P all answers said)) ∙ ap (λ u. if_wanted w (total_text (length answers) u)) total
+-- after the last line the total is told, and what was swept
+module _ (P : Saying) (w : Reporting) (t : Tally) (all : List (List ℕ)) (answers : List Answer) (said : AllSaid P all answers) (tallies : List Tally) (tallied : AllTallied all tallies) (total : t ≡ with_tallies no_tally tallies) (old mid new : Option (List ℕ)) (faults : Appends old mid (told w.wanted 1 answers tallies)) (n : ℕ) (counted : n ≡ length all) (swept : Swept) (sums : swept_sum swept ≡ w.beside * batches_of (length all)) where
+  total_is : if_wanted w.wanted (end_text w.beside n t swept) ≡ if_wanted w.wanted (end_text w.beside (length answers) (with_tallies no_tally tallies) swept)
+  total_is = ap (λ k. if_wanted w.wanted (end_text w.beside k t swept)) (counted ∙ sym (said_count P all answers said)) ∙ ap (λ u. if_wanted w.wanted (end_text w.beside (length answers) u swept)) total
 
-  pub told_whole : Appends mid new (if_wanted w (total_text n t)) → AppendsOne (Tells w all answers) old new
+  pub told_whole : Appends mid new (if_wanted w.wanted (end_text w.beside n t swept)) → AppendsOne (Tells w all answers) old new
   told_whole last = record {
-    text = told_all w answers tallies;
-    is = record { tallies = tallies; tallied = tallied; is = refl };
-    whole = subst (λ x. Appends old new (told w 1 answers tallies ++ x)) total_is (Appends-trans old mid new (told w 1 answers tallies) (if_wanted w (total_text n t)) faults last);
+    text = told_all w answers tallies swept;
+    is = record { tallies = tallies; tallied = tallied; swept = swept; sums = sums; is = refl };
+    whole = subst (λ x. Appends old new (told w.wanted 1 answers tallies ++ x)) total_is (Appends-trans old mid new (told w.wanted 1 answers tallies) (if_wanted w.wanted (end_text w.beside n t swept)) faults last);
   }
 
-  pub told_until : AppendsPrefix mid new (if_wanted w (total_text n t)) → AppendsSome (Tells w all answers) old new
+  pub told_until : AppendsPrefix mid new (if_wanted w.wanted (end_text w.beside n t swept)) → AppendsSome (Tells w all answers) old new
   told_until last = record {
-    text = told_all w answers tallies;
-    is = record { tallies = tallies; tallied = tallied; is = refl };
-    front = subst (λ x. AppendsPrefix old new (told w 1 answers tallies ++ x)) total_is (prefix_then old mid new (told w 1 answers tallies) (if_wanted w (total_text n t)) faults last);
+    text = told_all w answers tallies swept;
+    is = record { tallies = tallies; tallied = tallied; swept = swept; sums = sums; is = refl };
+    front = subst (λ x. AppendsPrefix old new (told w.wanted 1 answers tallies ++ x)) total_is (prefix_then old mid new (told w.wanted 1 answers tallies) (if_wanted w.wanted (end_text w.beside n t swept)) faults last);
   }
+
+-- a sweep that emptied all places that it came by
+all_emptied : Reporting → List (List ℕ) → Swept
+all_emptied w all = record { done = w.beside * batches_of (length all); was = 0 }
+
+emptied_sums : (w : Reporting) (all : List (List ℕ)) → swept_sum (all_emptied w all) ≡ w.beside * batches_of (length all)
+unfolding all_emptied
+emptied_sums w all = omega arith
 
 -- what was told before the total
-pub some_front : (w : Bool) (all : List (List ℕ)) (answers : List Answer) (old new : Option (List ℕ)) → TellsSome w 1 all answers old new → AppendsSome (Tells w all answers) old new
+pub some_front : (w : Reporting) (all : List (List ℕ)) (answers : List Answer) (old new : Option (List ℕ)) → TellsSome w.wanted 1 all answers old new → AppendsSome (Tells w all answers) old new
 some_front w all answers old new s = record {
-  text = told_all w answers s.tallies;
-  is = record { tallies = s.tallies; tallied = s.tallied; is = refl };
-  front = prefix_first old new (told w 1 answers s.tallies) (if_wanted w (total_text (length answers) (with_tallies no_tally s.tallies))) s.front;
+  text = told_all w answers s.tallies (all_emptied w all);
+  is = record { tallies = s.tallies; tallied = s.tallied; swept = all_emptied w all; sums = emptied_sums w all; is = refl };
+  front = prefix_first old new (told w.wanted 1 answers s.tallies) (if_wanted w.wanted (end_text w.beside (length answers) (with_tallies no_tally s.tallies) (all_emptied w all))) s.front;
 }
 
 -- where nothing was told
-pub some_none : (w : Bool) (all : List (List ℕ)) (answers : List Answer) (old : Option (List ℕ)) → AppendsSome (Tells w all answers) old old
+pub some_none : (w : Reporting) (all : List (List ℕ)) (answers : List Answer) (old : Option (List ℕ)) → AppendsSome (Tells w all answers) old old
 some_none w all answers old = record {
-  text = told_all w answers (none_of all);
-  is = record { tallies = none_of all; tallied = none_tallied all; is = refl };
-  front = prefix_none old (told_all w answers (none_of all));
+  text = told_all w answers (none_of all) (all_emptied w all);
+  is = record { tallies = none_of all; tallied = none_tallied all; swept = all_emptied w all; sums = emptied_sums w all; is = refl };
+  front = prefix_none old (told_all w answers (none_of all) (all_emptied w all));
 }

@@ -1,5 +1,5 @@
 -- What lines say, summed up batch by batch.
-use Rattle.std.proofs.Common.{◌≡◌, ◌<◌, ◌≤◌, ◌==◌, ℕ, suc, ◌+◌, ◌-◌, List, [], ◌∷◌, ◌++◌, Bool, true, None, Ok, Err, Bor, cond, Vec, Global, get_or, length, map, take, refl, sym, ap, ◌∙◌, subst, append_assoc, append-nil, arith}
+use Rattle.std.proofs.Common.{◌≡◌, ◌<◌, ◌≤◌, ◌==◌, ℕ, suc, ◌+◌, ◌-◌, ◌*◌, List, [], ◌∷◌, ◌++◌, Bool, true, None, Ok, Err, Bor, cond, Vec, Global, get_or, length, map, take, refl, sym, ap, ◌∙◌, subst, append_assoc, append-nil, arith}
 use Rattle.std.proofs.KnownBytes.{Appends-nil, Appends-trans}
 use Rattle.std.proofs.Math.Dec.{eqb-suc-zero}
 use Rattle.std.proofs.lemmas.List.{length-map, map-append, take_all}
@@ -15,10 +15,13 @@ use Rattle.sample_lines.specs.Lines.{sampled}
 use Rattle.sample_lines.specs.Summary.{Said, Totals, summary_text, totals_of}
 use Rattle.speak_core.specs.Answers.{AllSaid, Tells, all_read, told}
 use Rattle.shared_cascade.specs.Tallies.{no_tally}
+use Rattle.shared_cascade.specs.declared.sweeping.Swept.{Swept}
 use Rattle.shared_cascade.specs.declared.tallies.Tally.{Tally}
-use Rattle.speak_core.specs.Reports.{AllTallied, if_wanted, total_text, with_tallies}
+use Rattle.speak_core.specs.Reports.{AllTallied, Reporting, batches_of, end_text, if_wanted, reporting_of, swept_sum, with_tallies}
 use Rattle.speak_core.specs.declared.batches.Heard.{Heard}
+use Rattle.speak_core.specs.Crews.{HasSwept}
 use Rattle.speak_core.specs.Loaded.{SaysOnce}
+use Rattle.speak_words.specs.declared.asked.Settings.{Settings}
 use Rattle.speak_core.specs.Outputs.{said_of, sample_lines, summary_of}
 use Rattle.speak_core.specs.Parts.{AnswersFront, AppendsSome, Speaks, SumsUp, TellsFront, TellsSome, Writes, answer_of, lines_of, tally_of}
 use Rattle.speak_core.proofs.Said.{faults_of_first, faults_then, said_append, said_count, said_once, tallied_append, tallied_count, tells_none, told_append, told_until, told_whole, with_append}
@@ -54,6 +57,10 @@ adds_all answers i end old new so_far before is =
 -- the lines of a sample, counted
 pub sample_counted : (n count start : ℕ) → n ≡ count → n ≡ length (sample_lines count start)
 sample_counted n count start is = let k = length-sampled count start in omega (arith, is, k)
+
+-- and what was swept beside them
+pub sample_swept : (settings : Settings) (count start : ℕ) (swept : Swept) → HasSwept settings count swept → swept_sum swept ≡ (reporting_of settings).beside * batches_of (length (sample_lines count start))
+sample_swept settings count start swept has = has ∙ ap (λ n. settings.places * settings.sweep * batches_of n) (sample_counted count count start refl)
 
 module _ (P : Saying) where
   -- lines that were summed up were spoken, to an output of which nothing is known
@@ -194,26 +201,27 @@ module _ (P : Saying) where
     summed_all count end = subst (λ k. SumsUp P w 1 t t' (sampled k start).value (totals_of []) now err emid) end sofar.sums
 
   -- where the total is cut off, a front of all is told
-  pub summed_until : (w : Bool) (t : Tally) (all : List (List ℕ)) (old now : Totals) (err emid err' : Option (List ℕ)) → SumsUp P w 1 no_tally t all old now err emid → SaysOnce P → (n : ℕ) → n ≡ length all → AppendsPrefix emid err' (if_wanted w (total_text n t))
+  pub summed_until : (w : Reporting) (t : Tally) (all : List (List ℕ)) (old now : Totals) (err emid err' : Option (List ℕ)) → SumsUp P w.wanted 1 no_tally t all old now err emid → SaysOnce P → (n : ℕ) → n ≡ length all → (swept : Swept) → swept_sum swept ≡ w.beside * batches_of (length all)
+      → AppendsPrefix emid err' (if_wanted w.wanted (end_text w.beside n t swept))
       → (answers : List Answer) → AllSaid P all answers → AppendsSome (Tells w all answers) err err'
-  summed_until w t all old now err emid err' s once n counted last answers said =
-      subst (λ a. AppendsSome (Tells w all a) err err') (said_once P once all s.answers answers s.said said) (told_until P w t all s.answers s.said s.tallies s.tallied s.total err emid err' s.faults n counted last)
+  summed_until w t all old now err emid err' s once n counted swept sums last answers said =
+      subst (λ a. AppendsSome (Tells w all a) err err') (said_once P once all s.answers answers s.said said) (told_until P w t all s.answers s.said s.tallies s.tallied s.total err emid err' s.faults n counted swept sums last)
 
   -- lines that were summed up from no lines on, by what is known of the report
   pub sums_anew : (w v : Bool) (u t : Tally) (all : List (List ℕ)) (old new : Totals) (err err' : Option (List ℕ)) → v ≡ w → u ≡ no_tally → SumsUp P v 1 u t all old new err err' → SumsUp P w 1 no_tally t all old new err err'
   sums_anew w v u t all old new err err' wanted none h = subst (λ b. SumsUp P b 1 no_tally t all old new err err') wanted (subst (λ x. SumsUp P v 1 x t all old new err err') none h)
 
-  module _ (w : Bool) (t : Tally) (all : List (List ℕ)) (now : Totals) (err emid err' : Option (List ℕ)) (s : SumsUp P w 1 no_tally t all (totals_of []) now err emid) (text : List ℕ) (is_text : text ≡ summary_text now) where
+  module _ (w : Reporting) (t : Tally) (all : List (List ℕ)) (now : Totals) (err emid err' : Option (List ℕ)) (s : SumsUp P w.wanted 1 no_tally t all (totals_of []) now err emid) (text : List ℕ) (is_text : text ≡ summary_text now) where
     totals : now ≡ totals_of (map said_of s.answers)
     totals = s.added [] refl
 
     -- the summary's text is that of what the lines say
-    pub summed_writes : (out out' : Option (List ℕ)) (r : Bool) → Appends out out' text → r ≡ (now.refused == 0) → (n : ℕ) → n ≡ length all → Appends emid err' (if_wanted w (total_text n t)) → Writes P w all summary_of out out' err err' r
-    summed_writes out out' r wrote read n counted last = record {
+    pub summed_writes : (out out' : Option (List ℕ)) (r : Bool) → Appends out out' text → r ≡ (now.refused == 0) → (n : ℕ) → n ≡ length all → (swept : Swept) → swept_sum swept ≡ w.beside * batches_of (length all) → Appends emid err' (if_wanted w.wanted (end_text w.beside n t swept)) → Writes P w all summary_of out out' err err' r
+    summed_writes out out' r wrote read n counted swept sums last = record {
       answers = s.answers;
       said = s.said;
       output = subst (Appends out out') (is_text ∙ ap summary_text totals) wrote;
-      faults = told_whole P w t all s.answers s.said s.tallies s.tallied s.total err emid err' s.faults n counted last;
+      faults = told_whole P w t all s.answers s.said s.tallies s.tallied s.total err emid err' s.faults n counted swept sums last;
       read = read ∙ ap (λ (u : Totals). u.refused == 0) totals ∙ none_refused s.answers;
     }
 

@@ -1,11 +1,12 @@
 -- What the lines of an input say, and what is written and told of them.
-use Rattle.std.specs.Prelude.{◌≡◌, ℕ, ◌+◌, List, [], ◌∷◌, ◌++◌, Ok, Err, Bool, true, false, codes, length}
+use Rattle.std.specs.Prelude.{◌≡◌, ℕ, ◌+◌, ◌*◌, List, [], ◌∷◌, ◌++◌, Ok, Err, Bool, true, false, codes, length}
 use Rattle.std.specs.Fmt.{decimal}
 use Rattle.std.specs.List.{list_all}
 use Rattle.normaliser.specs.Lines.{Answer, Saying}
 use Rattle.shared_cascade.specs.Tallies.{no_tally}
+use Rattle.shared_cascade.specs.declared.sweeping.Swept.{Swept}
 use Rattle.shared_cascade.specs.declared.tallies.Tally.{Tally}
-use Rattle.speak_core.specs.Reports.{AllTallied, if_wanted, report_text, total_text, with_tallies}
+use Rattle.speak_core.specs.Reports.{AllTallied, Reporting, batches_of, end_text, if_wanted, report_text, swept_sum, with_tallies}
 use Rattle.normaliser.specs.declared.faults.LineFault.{LineFault}
 use Rattle.normaliser.specs.declared.faults.LineFault.TheVariants.{NulByte, LongLine, NoPath, NotTokens, TooManyFields, NoWords, Memory}
 
@@ -51,15 +52,17 @@ told report number [] ts = []
 told report number (answer ∷ answers) [] = []
 told report number (answer ∷ answers) (t ∷ ts) = line_text report number answer t ++ told report (number + 1) answers ts
 
--- of all lines, and with a report their total
-abbrev pub told_all : Bool → List Answer → List Tally → List ℕ
-told_all report answers ts = told report 1 answers ts ++ if_wanted report (total_text (length answers) (with_tallies no_tally ts))
+-- of all lines, and with a report their total, and the sweep, if there is one
+abbrev pub told_all : Reporting → List Answer → List Tally → Swept → List ℕ
+told_all report answers ts w = told report.wanted 1 answers ts ++ if_wanted report.wanted (end_text report.beside (length answers) (with_tallies no_tally ts) w)
 
 -- What may be told of lines that say this.
-pub record Tells (report : Bool) (lines : List (List ℕ)) (answers : List Answer) (text : List ℕ) : Type 0 where
+pub record Tells (report : Reporting) (lines : List (List ℕ)) (answers : List Answer) (text : List ℕ) : Type 0 where
   pub tallies : List Tally
   pub tallied : AllTallied lines tallies
-  pub is : text ≡ told_all report answers tallies
+  pub swept : Swept
+  pub sums : swept_sum swept ≡ report.beside * batches_of (length lines)
+  pub is : text ≡ told_all report answers tallies swept
 
 -- the line isn't refused
 abbrev pub is_read : Answer → Bool

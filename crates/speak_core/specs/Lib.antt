@@ -10,6 +10,7 @@ pub mod Owed
 pub mod Stops
 pub mod Inputs
 pub mod Parts
+pub mod Crews
 pub mod Loaded
 pub mod Works
 pub mod Told

@@ -6,7 +6,6 @@ use Rattle.core_expressions.specs.declared.expressions.Expr.{Expr}
 use Rattle.norm_base.specs.Files.{Files, file_of}
 use Rattle.normaliser.specs.Lines.{Answer, Saying}
 use Rattle.normaliser.specs.Loads.{CanBeBuilt, IsFirstEmpty, NoneRewritesEmpty}
-use Rattle.normaliser.specs.Searches.{IsCallerOf}
 use Rattle.speak_setup.specs.Setups.{SetupNames, SetupText, most_rules, names_of}
 use Rattle.speak_setup.specs.declared.setup.Need.{Need}
 use Rattle.speak_setup.specs.declared.setup.Setup.{Setup}
@@ -16,8 +15,11 @@ use Rattle.thrax_link.specs.Linking.{Linked, Outcome, exporting}
 use Rattle.thrax_link.specs.declared.grammar.Export.{Export}
 use Rattle.weighted_relations.specs.Expressions.{Expression}
 use Rattle.speak_core.specs.Accepted.{RequestAsks, IsOnly, OrText, RulesOf, all_rules, need_of}
+use Rattle.speak_core.specs.Crews.{IsCrewOf}
 use Rattle.speak_core.specs.Outputs.{checked_text}
+use Rattle.speak_core.specs.Reports.{swept_sum}
 use Rattle.speak_core.specs.Requests.{Request}
+use Rattle.speak_words.specs.declared.asked.Settings.{Settings}
 use Rattle.speak_core.specs.Parts.{says_of}
 use Rattle.speak_core.specs.Plans.{Plan, rules_of, saying_of}
 use Rattle.speak_core.specs.Texts.{empty_text}
@@ -79,9 +81,11 @@ abbrev pub FindsPlanned : {B : Type 0} → (Plan → B → Type 0) → (OrText P
 FindsPlanned Fits P (Ok b) = Planned Fits P b
 FindsPlanned Fits P (Err s) = StopsAs P s
 
--- its caller may be given a line
-abbrev pub IsLoaded : Loaded → Type 0
-IsLoaded loaded = IsCallerOf loaded.speaker.normaliser loaded.caller
+-- its callers may be given lines, by these settings, and nothing was swept yet
+pub record IsLoadedBy (settings : Settings) (loaded : Loaded) : Type 0 where
+  pub ready : IsCrewOf loaded.speaker.normaliser loaded.crew
+  pub by : loaded.crew.settings ≡ settings
+  pub unswept : swept_sum loaded.crew.swept ≡ 0
 
 -- by its speaker the lines say the same as by a plan
 abbrev pub SpeaksBy : Plan → Loaded → Type 0

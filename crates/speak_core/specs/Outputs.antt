@@ -10,6 +10,7 @@ use Rattle.text_lines.specs.Lines.{lines}
 use Rattle.weighted_relations.specs.Expressions.{Expression, size}
 use Rattle.speak_core.specs.Answers.{written}
 use Rattle.speak_core.specs.Plans.{Plan}
+use Rattle.speak_core.specs.Reports.{Reporting, no_reporting}
 
 -- so many lines of the sample, from a state on
 abbrev pub sample_lines : ℕ → ℕ → List (List ℕ)
@@ -29,11 +30,11 @@ reads_input (classify setup) = true
 reads_input (check setup) = false
 reads_input (sample count start) = false
 
--- whether the job reports, where a report is wanted: where it speaks no lines it doesn't
-abbrev pub reports_for : Job → Bool → Bool
+-- what the job reports, where this is wanted: where it speaks no lines, nothing
+abbrev pub reports_for : Job → Reporting → Reporting
 reports_for (speak setup) report = report
 reports_for (classify setup) report = report
-reports_for (check setup) report = false
+reports_for (check setup) report = no_reporting
 reports_for (sample count start) report = report
 
 -- a rule with its size

@@ -19,7 +19,7 @@ use Rattle.sample_lines.specs.Summary.{Said, Totals, totals_of}
 use Rattle.norm_base.specs.Bytes.{AppendsPrefix}
 use Rattle.shared_cascade.specs.declared.tallies.Tally.{Tally}
 use Rattle.speak_core.specs.Answers.{AllSaid, Tells, written, told, all_read}
-use Rattle.speak_core.specs.Reports.{AllTallied, with_tallies}
+use Rattle.speak_core.specs.Reports.{AllTallied, Reporting, with_tallies}
 use Rattle.speak_core.specs.declared.batches.Heard.{Heard}
 use Rattle.speak_core.specs.Outputs.{said_of}
 use Rattle.speak_core.specs.Plans.{says_in}
@@ -116,7 +116,7 @@ pub record Speaks (says : Saying) (report : Bool) (first : ℕ) (sum sum' : Tall
   pub read : was_read ≡ all_read answers
 
 -- What all lines say was written as one text of their answers, and what is told of them.
-pub record Writes (says : Saying) (report : Bool) (all : List (List ℕ)) (text : List Answer → List ℕ) (out out' err err' : Option (List ℕ)) (was_read : Bool) : Type 0 where
+pub record Writes (says : Saying) (report : Reporting) (all : List (List ℕ)) (text : List Answer → List ℕ) (out out' err err' : Option (List ℕ)) (was_read : Bool) : Type 0 where
   pub answers : List Answer
   pub said : AllSaid says all answers
   pub output : Appends out out' (text answers)

@@ -1,10 +1,12 @@
 -- What is reported of the looks for expansions that lines made: of each line, and in total.
-use Rattle.std.specs.Prelude.{◌≡◌, ℕ, ◌+◌, ◌-◌, ◌^◌, List, [], ◌∷◌, ◌++◌, Bool, true, false, codes, min}
+use Rattle.std.specs.Prelude.{◌≡◌, ◌==◌, ℕ, ◌+◌, ◌-◌, ◌*◌, ◌/◌, ◌^◌, List, [], ◌∷◌, ◌++◌, Bool, true, false, codes, min, if◌then◌else◌}
 use Rattle.std.specs.Fmt.{decimal}
 use Rattle.normaliser.specs.Lines.{IsSearched}
 use Rattle.shared_cascade.specs.Tallies.{no_tally, with_all}
 use Rattle.shared_cascade.specs.declared.tallies.Outcome.{Outcome}
+use Rattle.shared_cascade.specs.declared.sweeping.Swept.{Swept}
 use Rattle.shared_cascade.specs.declared.tallies.Tally.{Tally}
+use Rattle.speak_words.specs.declared.asked.Settings.{Settings}
 
 -- What came of the looks for a line was counted. A line that isn't searched makes none.
 pub record IsTallyOf (line : List ℕ) (t : Tally) : Type 0 where
@@ -58,6 +60,33 @@ report_text number t = codes "report line " ++ (decimal number ++ (codes ":" ++ 
 -- of so many lines
 abbrev pub total_text : ℕ → Tally → List ℕ
 total_text count t = codes "report total: lines " ++ (decimal count ++ numbers_text t)
+
+-- so many places were emptied, and so many not
+abbrev pub sweep_text : Swept → List ℕ
+sweep_text w = codes "report sweep: done " ++ (decimal w.done ++ (codes " was " ++ (decimal w.was ++ 10 ∷ [])))
+
+-- how many batches so many lines make
+abbrev pub batches_of : ℕ → ℕ
+batches_of n = (n + 1023) / 1024
+
+-- whether a report is wanted, and how many times a place is emptied, or not, beside each batch
+pub record Reporting : Type 0 where
+  pub wanted : Bool
+  pub beside : ℕ
+
+abbrev pub reporting_of : Settings → Reporting
+reporting_of s = record { wanted = s.report; beside = s.places * s.sweep }
+
+abbrev pub no_reporting : Reporting
+no_reporting = record { wanted = false; beside = 0 }
+
+-- how many places a sweep came by
+abbrev pub swept_sum : Swept → ℕ
+swept_sum w = w.done + w.was
+
+-- what a report ends with: the total, and the sweep, if there is one
+abbrev pub end_text : ℕ → ℕ → Tally → Swept → List ℕ
+end_text beside count t w = total_text count t ++ (if beside == 0 then [] else sweep_text w)
 
 -- where a report is wanted
 abbrev pub if_wanted : Bool → List ℕ → List ℕ

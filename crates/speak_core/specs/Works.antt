@@ -3,12 +3,14 @@ use Rattle.std.specs.Prelude.{◌≡◌, ◌⊎◌, ℕ, List, [], Result, Ok, E
 use Rattle.norm_base.specs.Counts.{Rose}
 use Rattle.normaliser.specs.Lines.{Answer, Saying}
 use Rattle.speak_words.specs.Asked.{Job}
+use Rattle.speak_words.specs.declared.asked.Settings.{Settings}
 use Rattle.text_lines.specs.Lines.{lines}
 use Rattle.speak_core.specs.Answers.{AllSaid, written}
-use Rattle.speak_core.specs.Loaded.{ChecksBy, IsLoaded, SpeaksBy}
+use Rattle.speak_core.specs.Loaded.{ChecksBy, IsLoadedBy, SpeaksBy}
 use Rattle.speak_core.specs.Outputs.{lines_for, out_text, reports_for, sample_lines, summary_of}
 use Rattle.speak_core.specs.Parts.{says_of}
 use Rattle.speak_core.specs.Plans.{Plan, saying_of}
+use Rattle.speak_core.specs.Reports.{Reporting, no_reporting}
 use Rattle.speak_core.specs.declared.stop.Stop.{Stop}
 use Rattle.speak_core.specs.declared.stop.Stop.TheVariants.{Outside, Memory}
 use Rattle.speak_core.specs.declared.works.Work.{Work}
@@ -33,11 +35,11 @@ work_text (Input loaded) answers = written answers
 work_text (Checked text) answers = text.items
 work_text (Sampled sample) answers = summary_of answers
 
--- a speaker's caller may be given lines
-abbrev pub CanBeDone : Work → Type 0
-CanBeDone (Input loaded) = IsLoaded loaded
-CanBeDone (Checked text) = Unit {0}
-CanBeDone (Sampled sample) = IsLoaded sample.loaded
+-- a speaker's callers may be given lines, by these settings
+abbrev pub CanBeDone : Settings → Work → Type 0
+CanBeDone settings (Input loaded) = IsLoadedBy settings loaded
+CanBeDone settings (Checked text) = Unit {0}
+CanBeDone settings (Sampled sample) = IsLoadedBy settings sample.loaded
 
 -- whether the work reads the input
 abbrev pub work_reads : Work → Bool
@@ -45,10 +47,10 @@ work_reads (Input loaded) = true
 work_reads (Checked text) = false
 work_reads (Sampled sample) = false
 
--- whether the work reports, where a report is wanted
-abbrev pub work_reports : Work → Bool → Bool
+-- what the work reports, where this is wanted
+abbrev pub work_reports : Work → Reporting → Reporting
 work_reports (Input loaded) report = report
-work_reports (Checked text) report = false
+work_reports (Checked text) report = no_reporting
 work_reports (Sampled sample) report = report
 
 -- what a plan comes to: the lines of the input, the sizes of its rules, or the lines of a sample
@@ -73,7 +75,7 @@ pub record Does (job : Job) (plan : Plan) (work : Work) : Type 0 where
   pub by_work : (input : List ℕ) (answers : List Answer) → AllSaid (saying_of plan) (lines_for job input) answers → AllSaid (work_says work) (work_lines work input) answers
   pub text : (answers : List Answer) → work_text work answers ≡ out_text job plan answers
   pub lines : (input : List ℕ) → work_lines work input ≡ lines_for job input
-  pub reports : (report : Bool) → work_reports work report ≡ reports_for job report
+  pub reports : (report : Reporting) → work_reports work report ≡ reports_for job report
 
 -- The counts of the source and the two sinks: all stay where the work ends well or the input is too long, and one rose where it stops at an
 -- outside fault.

@@ -1,13 +1,11 @@
 // A batch of lines: cut off a text, answered, and told.
 
 ghost use Rattle.std.specs.Prelude.{◌≡◌, ◌<◌, ◌≤◌, ◌+◌, ◌^◌, ◌++◌, IfOk, OnErr, OnOk, length, map, string_bytes};
-ghost use Rattle.normaliser.specs.Searches.{IsCallerOf};
 ghost use Rattle.speak_core.specs.Answers.{all_read, fault_text, line_text, words_text};
-ghost use Rattle.speak_core.specs.Parts.{AnswersFront, Cuts, TellsFront, answer_in, answer_of, lines_of, says_of, tally_of};
+ghost use Rattle.speak_core.specs.Parts.{Cuts, TellsFront, answer_in, answer_of, lines_of, tally_of};
 
 use crate::reports::report_line;
-use crate::speakers::Speaker;
-use normaliser::{Caller, LineFault, Spoken, Tally};
+use normaliser::{LineFault, Spoken, Tally};
 use std::alloc::{AllocError, Global};
 use text_lines::first_line;
 
@@ -24,7 +22,8 @@ pub(crate) struct Batch<'a> {
 
 /// Cuts a batch off the front of a text.
 pub(crate) fn cut_batch<'a>(alloc: Global, text: &'a [u8]) -> Result<Batch<'a>, AllocError>
-    ensures { IfOk result (λ batch. Cuts 1024 text.now (lines_of batch.lines.items) batch.rest.now) }
+    ensures cuts { IfOk result (λ batch. Cuts 1024 text.now (lines_of batch.lines.items) batch.rest.now) }
+    ensures some { 0 < length text.now → IfOk result (λ batch. 0 < length batch.lines.items) }
 {
     let mut lines = Vec::new(alloc);
     let mut rest = text;
@@ -49,33 +48,6 @@ pub(crate) struct Answers {
     pub(crate) all: Vec<Heard>,
     /// They didn't end for want of memory.
     pub(crate) is_whole: bool,
-}
-
-/// Answers lines in order, up to the first for which memory is wanting.
-pub(crate) fn answer_lines(
-    alloc: Global,
-    speaker: &Speaker,
-    caller: &mut Caller,
-    lines: &[&[u8]],
-) -> Answers
-    requires ready { IsCallerOf speaker.now.normaliser caller.old }
-    ensures ready { IsCallerOf speaker.now.normaliser caller.new }
-    ensures answers { AnswersFront (says_of speaker.now) (lines_of lines.now) (map answer_of result.all.items) (map tally_of result.all.items) result.is_whole }
-{
-    let mut answers = Answers {
-        all: Vec::new(alloc),
-        is_whole: false,
-    };
-    for line in lines {
-        let Ok(heard) = speaker.answer(alloc, caller, line) else {
-            return answers;
-        };
-        let Ok(()) = answers.all.push(heard) else {
-            return answers;
-        };
-    }
-    answers.is_whole = true;
-    answers
 }
 
 /// Whether each line was read.

@@ -11,6 +11,8 @@
 #![tactic(auto)]
 
 mod batches;
+mod crews;
+mod gathering;
 mod loading;
 mod outside;
 mod reports;
@@ -19,6 +21,7 @@ mod rules;
 mod running;
 mod samples;
 mod sampling;
+mod shares;
 mod sizes;
 mod speakers;
 mod speaking;

@@ -2,14 +2,17 @@
 
 ghost use Rattle.std.specs.Prelude.{◌≡◌, ◌<◌, ◌≤◌, ◌++◌, All, IfErr, IfOk, IfSome, Some, length, slice_get};
 ghost use Rattle.normaliser.specs.Loads.{CanBeBuilt};
-ghost use Rattle.normaliser.specs.Searches.{IsNewCallerOf};
+ghost use Rattle.normaliser.specs.Searches.{IsNewCallerOf, places_of};
 ghost use Rattle.speak_setup.specs.Setups.{HasNames, HasVerbalizer, IsNamed, most_rules, names_of};
 ghost use Rattle.thrax_link.specs.Exports.{exports_of};
 ghost use Rattle.speak_core.specs.Accepted.{RequestAsks, NamesAsk, PlanOf, RulesOf, VerbaliserOf, all_rules, need_of};
+ghost use Rattle.speak_words.specs.Asked.{AreInBounds};
+ghost use Rattle.speak_core.specs.Crews.{seats_for};
 ghost use Rattle.speak_core.specs.Requests.{request_of};
-ghost use Rattle.speak_core.specs.Loaded.{Builds, CanLoad, Checks, Finds, FindsGrammar, FindsSetup, FindsPlanned, ChecksBy, IsLoaded, SpeaksBy, expressions_of, plan_of};
+ghost use Rattle.speak_core.specs.Loaded.{Builds, CanLoad, Checks, Finds, FindsGrammar, FindsSetup, FindsPlanned, ChecksBy, IsLoadedBy, SpeaksBy, expressions_of, plan_of};
 ghost use Rattle.speak_core.specs.Stops.{Counts, IsRuleStop, IsReadStop};
 
+use crate::crews::{Crew, none_swept, seats_for};
 use crate::outside::fetch;
 use crate::requests::{Mode, Request};
 use crate::rules::rules_of;
@@ -20,8 +23,17 @@ use core_expressions::Expr;
 use norm_base::{Name, Shelf};
 use normaliser::{Caller, LoadFault, Normaliser, load};
 use speak_setup::{Need, Setup, SetupFault, read_setup};
+use speak_words::Settings;
 use std::alloc::Global;
 use thrax_link::{Grammar, LinkFault, link};
+
+/// How rules are loaded that speak no lines.
+const SMALLEST: Settings = Settings {
+    places: 1,
+    jobs: 1,
+    sweep: 0,
+    report: false,
+};
 
 /// The rules of a plan, which aren't built yet.
 #[derive(Drop)]
@@ -31,22 +43,22 @@ pub(crate) struct Rules {
     pub(crate) verbaliser: Vec<Expr>,
 }
 
-/// The speaker that a request asks for, over a table of so many places.
+/// The speaker that a request asks for, by so many callers over a table of so many places.
 pub(crate) fn find_speaker<H: Shelf>(
     alloc: Global,
     shelf: &mut H,
     request: &Request<'_>,
-    places: u32,
+    settings: Settings,
 ) -> Result<Loaded, Stop>
-    requires places { (1 ≤ places) × (places ≤ 4096) }
+    requires settings { AreInBounds settings }
     ensures finds { IfSome (H.files shelf.old) (λ files. FindsPlanned SpeaksBy (RequestAsks files (request_of request.now)) result) }
-    ensures ready { IfOk result IsLoaded }
+    ensures ready { IfOk result (IsLoadedBy settings) }
     ensures files { H.files shelf.new ≡ H.files shelf.old }
     ensures counts { Counts (H.faults shelf.old) (H.faults shelf.new) result }
     ensures stops { IfErr result IsReadStop }
 {
     let setup = find_setup(alloc, shelf, request)?;
-    find_named(alloc, shelf, request.mode, &setup, places)
+    find_named(alloc, shelf, request.mode, &setup, settings)
 }
 
 /// The sizes of the rules that a request asks for, as they are told, once all of them are built.
@@ -100,18 +112,18 @@ fn find_named<H: Shelf>(
     shelf: &mut H,
     mode: Mode,
     setup: &Setup,
-    places: u32,
+    settings: Settings,
 ) -> Result<Loaded, Stop>
     requires names { HasNames (need_of mode) (names_of setup.now) }
-    requires places { (1 ≤ places) × (places ≤ 4096) }
+    requires settings { AreInBounds settings }
     ensures finds { IfSome (H.files shelf.old) (λ files. FindsPlanned SpeaksBy (NamesAsk files mode (names_of setup.now)) result) }
-    ensures ready { IfOk result IsLoaded }
+    ensures ready { IfOk result (IsLoadedBy settings) }
     ensures files { H.files shelf.new ≡ H.files shelf.old }
     ensures counts { Counts (H.faults shelf.old) (H.faults shelf.new) result }
     ensures stops { IfErr result IsReadStop }
 {
     let rules = find_plan(alloc, shelf, mode, setup)?;
-    build(alloc, mode, setup, &rules, places)
+    build(alloc, mode, setup, &rules, settings)
 }
 
 /// The sizes of the rules of a setup.
@@ -137,7 +149,7 @@ fn check(alloc: Global, mode: Mode, setup: &Setup, rules: &Rules) -> Result<Vec<
     ensures checks { Checks (names_of setup.now) (plan_of mode (names_of setup.now) rules.now) result }
     ensures stops { IfErr result IsRuleStop }
 {
-    let _built = build(alloc, mode, setup, rules, 1)?;
+    let _built = build(alloc, mode, setup, rules, SMALLEST)?;
     let text = sizes::all(alloc, setup, rules)?;
     Ok(text)
 }
@@ -238,16 +250,23 @@ fn build(
     mode: Mode,
     setup: &Setup,
     rules: &Rules,
-    places: u32,
+    settings: Settings,
 ) -> Result<Loaded, Stop>
     requires rules { CanLoad (names_of setup.now) rules.now }
-    requires places { (1 ≤ places) × (places ≤ 4096) }
+    requires settings { AreInBounds settings }
     ensures builds { Builds (names_of setup.now) (plan_of mode (names_of setup.now) rules.now) result }
-    ensures ready { IfOk result IsLoaded }
+    ensures ready { IfOk result (IsLoadedBy settings) }
     ensures stops { IfErr result IsRuleStop }
 {
-    match load(alloc, &rules.classifier, &rules.verbaliser, places, 1) {
-        Ok((normaliser, callers)) => Ok(loaded(mode, normaliser, callers)),
+    let seats = seats_for(settings.jobs, settings.sweep);
+    match load(
+        alloc,
+        &rules.classifier,
+        &rules.verbaliser,
+        settings.places,
+        seats,
+    ) {
+        Ok((normaliser, callers)) => Ok(loaded(mode, normaliser, callers, settings)),
         Err(LoadFault::RewritesEmpty { rule }) => {
             let name = rule_name(setup, rule);
             Err(Stop::refused(texts::rewrites_empty(alloc, name)))
@@ -256,16 +275,22 @@ fn build(
     }
 }
 
-/// The speaker of a normaliser, by its one caller.
-fn loaded(mode: Mode, normaliser: Normaliser, mut callers: Vec<Caller>) -> Loaded
-    requires one { length callers.items ≡ 1 }
-    requires ready { All (IsNewCallerOf normaliser) callers.items }
+/// The speaker of a normaliser, by a crew of its new callers.
+fn loaded(mode: Mode, normaliser: Normaliser, callers: Vec<Caller>, settings: Settings) -> Loaded
+    requires settings { AreInBounds settings }
+    requires count { length callers.items ≡ seats_for settings.jobs settings.sweep }
+    requires new { All (IsNewCallerOf normaliser) callers.items }
+    requires places { places_of normaliser ≡ settings.places }
     ensures speaker { result.speaker ≡ record { normaliser = normaliser; mode = mode } }
-    ensures ready { IsLoaded result }
+    ensures ready { IsLoadedBy settings result }
 {
-    let caller = callers.pop().unwrap();
     let speaker = Speaker { normaliser, mode };
-    Loaded { speaker, caller }
+    let crew = Crew {
+        callers,
+        settings,
+        swept: none_swept(),
+    };
+    Loaded { speaker, crew }
 }
 
 /// The name of the rule of this number. The verbaliser's rules are counted after the classifier's.

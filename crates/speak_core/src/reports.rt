@@ -5,14 +5,14 @@ ghost use Rattle.std.specs.Io.KnownBytes.{Appends};
 ghost use Rattle.norm_base.specs.Bytes.{AppendsPrefix};
 ghost use Rattle.shared_cascade.specs.Tallies.{no_tally};
 ghost use Rattle.speak_core.specs.Parts.{tally_of};
-ghost use Rattle.speak_core.specs.Reports.{if_wanted, numbers_text, published_text, report_text, shown_text, sum_of, total_text, wide_text, with_tallies, with_tally};
+ghost use Rattle.speak_core.specs.Reports.{end_text, if_wanted, numbers_text, published_text, report_text, shown_text, sum_of, sweep_text, total_text, wide_text, with_tallies, with_tally};
 ghost use Rattle.speak_core.specs.Stops.{Counts, IsDeviceStop};
 
 use crate::batches::Heard;
 use crate::outside::put;
 use crate::stop::Stop;
 use norm_base::Sink;
-use normaliser::Tally;
+use normaliser::{Swept, Tally};
 use std::alloc::{AllocError, Global};
 
 /// What is reported of the lines so far.
@@ -37,10 +37,16 @@ impl Report {
         }
     }
 
-    /// Tells the total, where a report is wanted.
-    pub(crate) fn tell<E: Sink>(&self, alloc: Global, err: &mut E) -> Result<(), Stop>
-        ensures all { OnOk result (Appends (E.held err.old) (E.held err.new) (if_wanted self.now.is_wanted (total_text self.now.lines self.now.total))) }
-        ensures front { AppendsPrefix (E.held err.old) (E.held err.new) (if_wanted self.now.is_wanted (total_text self.now.lines self.now.total)) }
+    /// Tells the total, and what a sweep found, where a report is wanted.
+    pub(crate) fn tell<E: Sink>(
+        &self,
+        alloc: Global,
+        beside: u64,
+        swept: &Swept,
+        err: &mut E,
+    ) -> Result<(), Stop>
+        ensures all { OnOk result (Appends (E.held err.old) (E.held err.new) (if_wanted self.now.is_wanted (end_text beside self.now.lines self.now.total swept.now))) }
+        ensures front { AppendsPrefix (E.held err.old) (E.held err.new) (if_wanted self.now.is_wanted (end_text beside self.now.lines self.now.total swept.now)) }
         ensures counts { Counts (E.faults err.old) (E.faults err.new) result }
         ensures later { E.faults err.old ≤ E.faults err.new }
         ensures stops { IfErr result IsDeviceStop }
@@ -48,7 +54,11 @@ impl Report {
         if !self.is_wanted {
             return Ok(());
         }
-        let text = total_line(alloc, self.lines, &self.total)?;
+        let mut text = total_line(alloc, self.lines, &self.total)?;
+        if beside != 0 {
+            let more = sweep_line(alloc, swept)?;
+            text.push_str(&more)?;
+        }
         put(err, text.as_bytes())
     }
 }
@@ -67,6 +77,15 @@ fn total_line(alloc: Global, count: u64, tally: &Tally) -> Result<String, AllocE
 {
     let numbers = numbers(alloc, tally)?;
     format!(in alloc; "report total: lines {count}{numbers}")
+}
+
+/// The report of a sweep.
+fn sweep_line(alloc: Global, swept: &Swept) -> Result<String, AllocError>
+    ensures { IfOk result (λ text. string_bytes text ≡ sweep_text swept.now) }
+{
+    let done = swept.done;
+    let was = swept.was;
+    format!(in alloc; "report sweep: done {done} was {was}\n")
 }
 
 /// The six numbers, and a line feed.

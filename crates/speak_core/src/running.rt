@@ -12,10 +12,11 @@ ghost use Rattle.speak_core.specs.Answers.{AllSaid, Tells, written};
 ghost use Rattle.speak_core.specs.Requests.{job_in};
 ghost use Rattle.speak_core.specs.Devices.{seen};
 ghost use Rattle.speak_core.specs.Inputs.{GaveTooMuch, IfGaveTooMuch};
-ghost use Rattle.speak_core.specs.Loaded.{IsLoaded, StopsAs};
+ghost use Rattle.speak_core.specs.Loaded.{IsLoadedBy, StopsAs};
 ghost use Rattle.speak_core.specs.Outputs.{reads_input};
 ghost use Rattle.speak_core.specs.Owed.{OfOwed, SpeaksAll, Told};
 ghost use Rattle.speak_core.specs.Parts.{AppendsSome, Writes, says_of};
+ghost use Rattle.speak_core.specs.Reports.{reporting_of};
 ghost use Rattle.speak_core.specs.Stops.{AllCounts, Counts, IsAccepted, IsDeviceStop, IsReadingStop, IsRefusalStop};
 ghost use Rattle.speak_core.specs.Works.{CanBeDone, WorkCounts, work_lines, work_reads, work_reports, work_says, work_text};
 
@@ -25,14 +26,18 @@ use crate::sampling::speak_sample;
 use crate::speakers::Loaded;
 use crate::speaking::speak_lines;
 use crate::stop::Stop;
+use crate::watch::Watch;
 use crate::works::{Work, find_work};
 use norm_base::{Shelf, Sink, Source};
-use speak_words::read_words;
+use speak_words::{Settings, read_words};
 use std::alloc::Global;
+use std::thread::Threads;
 
 /// Runs the job of these words, and answers whether each line was read.
-pub(crate) fn run<H: Shelf, S: Source, O: Sink, E: Sink>(
+pub(crate) fn run<R: Threads + Sync, H: Shelf, S: Source, O: Sink, E: Sink, W: Watch + Sync>(
+    rt: &R,
     alloc: Global,
+    watch: &W,
     words: &[String],
     shelf: &mut H,
     source: &mut S,
@@ -65,23 +70,25 @@ pub(crate) fn run<H: Shelf, S: Source, O: Sink, E: Sink>(
     let Some(asked) = asked else {
         return Err(Stop::Words);
     };
-    let work = find_work(alloc, shelf, &asked.mode, asked.settings.places)?;
-    do_work(alloc, work, asked.settings.report, source, out, err)
+    let work = find_work(alloc, shelf, &asked.mode, asked.settings)?;
+    do_work(rt, alloc, watch, work, asked.settings, source, out, err)
 }
 
 /// Does what is left of a job, and answers whether each line was read.
-fn do_work<S: Source, O: Sink, E: Sink>(
+fn do_work<R: Threads + Sync, S: Source, O: Sink, E: Sink, W: Watch + Sync>(
+    rt: &R,
     alloc: Global,
+    watch: &W,
     work: Work,
-    wants_report: bool,
+    settings: Settings,
     source: &mut S,
     out: &mut O,
     err: &mut E,
 ) -> Result<bool, Stop>
-    requires ready { CanBeDone work }
-    ensures done { IfSome (S.left source.old) (λ input. IfOk result (Writes (work_says work) (work_reports work wants_report) (work_lines work input) (work_text work) (O.held out.old) (O.held out.new) (E.held err.old) (E.held err.new))) }
+    requires ready { CanBeDone settings work }
+    ensures done { IfSome (S.left source.old) (λ input. IfOk result (Writes (work_says work) (work_reports work (reporting_of settings)) (work_lines work input) (work_text work) (O.held out.old) (O.held out.new) (E.held err.old) (E.held err.new))) }
     ensures out_front { IfSome (S.left source.old) (λ input. (answers : List Answer) → AllSaid (work_says work) (work_lines work input) answers → AppendsPrefix (O.held out.old) (O.held out.new) (work_text work answers)) }
-    ensures err_front { IfSome (S.left source.old) (λ input. (answers : List Answer) → AllSaid (work_says work) (work_lines work input) answers → AppendsSome (Tells (work_reports work wants_report) (work_lines work input) answers) (E.held err.old) (E.held err.new)) }
+    ensures err_front { IfSome (S.left source.old) (λ input. (answers : List Answer) → AllSaid (work_says work) (work_lines work input) answers → AppendsSome (Tells (work_reports work (reporting_of settings)) (work_lines work input) answers) (E.held err.old) (E.held err.new)) }
     ensures end { work_reads work ≡ true → OnOk result (IsAtEnd (S.left source.new)) }
     ensures kept { work_reads work ≡ false → S.left source.new ≡ S.left source.old }
     ensures too_long { IsErrOf result Stop.TooLong → GaveTooMuch (S.left source.old) (S.left source.new) }
@@ -91,25 +98,26 @@ fn do_work<S: Source, O: Sink, E: Sink>(
     ensures stops { IfErr result IsReadingStop }
 {
     match work {
-        Work::Input(loaded) => speak_input(alloc, loaded, wants_report, source, out, err),
+        Work::Input(loaded) => { speak_input(rt, alloc, watch, loaded, source, out, err) }
         Work::Checked(text) => tell_sizes(out, &text),
-        Work::Sampled(sample) => speak_sample(alloc, wants_report, sample, out, err),
+        Work::Sampled(sample) => speak_sample(rt, alloc, watch, sample, out, err),
     }
 }
 
 /// Speaks the lines of the input.
-fn speak_input<S: Source, O: Sink, E: Sink>(
+fn speak_input<R: Threads + Sync, S: Source, O: Sink, E: Sink, W: Watch + Sync>(
+    rt: &R,
     alloc: Global,
+    watch: &W,
     loaded: Loaded,
-    wants_report: bool,
     source: &mut S,
     out: &mut O,
     err: &mut E,
 ) -> Result<bool, Stop>
-    requires ready { IsLoaded loaded }
-    ensures done { IfSome (S.left source.old) (λ input. IfOk result (Writes (says_of loaded.speaker) wants_report (lines input) written (O.held out.old) (O.held out.new) (E.held err.old) (E.held err.new))) }
+    requires ready { IsLoadedBy loaded.crew.settings loaded }
+    ensures done { IfSome (S.left source.old) (λ input. IfOk result (Writes (says_of loaded.speaker) (reporting_of loaded.crew.settings) (lines input) written (O.held out.old) (O.held out.new) (E.held err.old) (E.held err.new))) }
     ensures out_front { IfSome (S.left source.old) (λ input. (answers : List Answer) → AllSaid (says_of loaded.speaker) (lines input) answers → AppendsPrefix (O.held out.old) (O.held out.new) (written answers)) }
-    ensures err_front { IfSome (S.left source.old) (λ input. (answers : List Answer) → AllSaid (says_of loaded.speaker) (lines input) answers → AppendsSome (Tells wants_report (lines input) answers) (E.held err.old) (E.held err.new)) }
+    ensures err_front { IfSome (S.left source.old) (λ input. (answers : List Answer) → AllSaid (says_of loaded.speaker) (lines input) answers → AppendsSome (Tells (reporting_of loaded.crew.settings) (lines input) answers) (E.held err.old) (E.held err.new)) }
     ensures end { OnOk result (IsAtEnd (S.left source.new)) }
     ensures too_long { IsErrOf result Stop.TooLong → GaveTooMuch (S.left source.old) (S.left source.new) }
     ensures only_too_long { IfGaveTooMuch (S.left source.old) (S.left source.new) (IsErrOf result Stop.TooLong) }
@@ -118,13 +126,20 @@ fn speak_input<S: Source, O: Sink, E: Sink>(
     ensures stops { IfErr result IsReadingStop }
 {
     let input = read_all(alloc, source)?;
-    let Loaded {
-        speaker,
-        mut caller,
-    } = loaded;
-    let mut report = Report::new(wants_report);
-    let is_read = speak_lines(alloc, &mut report, &speaker, &mut caller, &input, out, err)?;
-    report.tell(alloc, err)?;
+    let Loaded { speaker, mut crew } = loaded;
+    let mut report = Report::new(crew.settings.report);
+    let is_read = speak_lines(
+        rt,
+        alloc,
+        watch,
+        &mut report,
+        &speaker,
+        &mut crew,
+        &input,
+        out,
+        err,
+    )?;
+    report.tell(alloc, crew.beside(), &crew.swept, err)?;
     Ok(is_read)
 }
 

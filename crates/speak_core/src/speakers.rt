@@ -6,6 +6,7 @@ ghost use Rattle.normaliser.specs.Searches.{Did, IsCallerOf};
 ghost use Rattle.speak_core.specs.Parts.{IsPart, answer_of, is_short, says_of};
 
 use crate::batches::Heard;
+use crate::crews::Crew;
 use crate::requests::Mode;
 use normaliser::{Caller, LineFault, Normaliser, Spoken};
 use std::alloc::{AllocError, Global};
@@ -17,11 +18,11 @@ pub(crate) struct Speaker {
     pub(crate) mode: Mode,
 }
 
-/// A speaker, and the caller that it speaks by.
+/// A speaker, and the callers that it speaks by.
 #[derive(Drop)]
 pub(crate) struct Loaded {
     pub(crate) speaker: Speaker,
-    pub(crate) caller: Caller,
+    pub(crate) crew: Crew,
 }
 
 impl Speaker {

@@ -1,41 +1,49 @@
 // The lines of a text, batch by batch.
 
-ghost use Rattle.std.specs.Prelude.{◌≡◌, ◌≤◌, ◌<◌, ◌+◌, ◌^◌, IfErr, IfOk, List, OnOk, length};
+ghost use Rattle.std.specs.Prelude.{◌≡◌, ◌≤◌, ◌<◌, ◌+◌, ◌*◌, ◌^◌, IfErr, IfOk, List, OnOk, length};
 ghost use Rattle.std.specs.Io.KnownBytes.{Appends};
 ghost use Rattle.norm_base.specs.Bytes.{AppendsPrefix};
 ghost use Rattle.normaliser.specs.Lines.{Answer};
-ghost use Rattle.normaliser.specs.Searches.{IsCallerOf};
 ghost use Rattle.speak_core.specs.Answers.{AllSaid, written};
+ghost use Rattle.speak_core.specs.Crews.{HasSwept, IsCrewOf, SweptOn};
+ghost use Rattle.speak_core.specs.Reports.{swept_sum};
 ghost use Rattle.text_lines.specs.Lines.{lines};
 ghost use Rattle.speak_core.specs.Parts.{Speaks, TellsSome, lines_of, says_of};
 ghost use Rattle.speak_core.specs.Stops.{IsDeviceStop, SinkCounts};
 
-use crate::batches::{answer_lines, are_read, cut_batch, tell_answers};
+use crate::batches::{are_read, cut_batch, tell_answers};
+use crate::crews::{Crew, answer_batch};
 use crate::outside::put;
 use crate::reports::{Report, add_all};
 use crate::speakers::Speaker;
 use crate::stop::Stop;
+use crate::watch::Watch;
 use norm_base::Sink;
-use normaliser::Caller;
 use std::alloc::Global;
+use std::thread::Threads;
 
 /// Speaks each line of a text, and answers whether each was read. What was told before a stop is written, where it can be.
-pub(crate) fn speak_lines<O: Sink, E: Sink>(
+pub(crate) fn speak_lines<R: Threads + Sync, O: Sink, E: Sink, W: Watch + Sync>(
+    rt: &R,
     alloc: Global,
+    watch: &W,
     report: &mut Report,
     speaker: &Speaker,
-    caller: &mut Caller,
+    crew: &mut Crew,
     text: &[u8],
     out: &mut O,
     err: &mut E,
 ) -> Result<bool, Stop>
     requires fits { length text.now ≤ 2 ^ 28 }
-    requires ready { IsCallerOf speaker.now.normaliser caller.old }
+    requires ready { IsCrewOf speaker.now.normaliser crew.old }
+    requires unswept { swept_sum crew.old.swept ≡ 0 }
     ensures done { IfOk result (λ is_read. Speaks (says_of speaker.now) report.old.is_wanted 1 report.old.total report.new.total (lines text.now) (O.held out.old) (O.held out.new) (E.held err.old) (E.held err.new) is_read) }
     ensures out_front { (answers : List Answer) → AllSaid (says_of speaker.now) (lines text.now) answers → AppendsPrefix (O.held out.old) (O.held out.new) (written answers) }
     ensures err_front { (answers : List Answer) → AllSaid (says_of speaker.now) (lines text.now) answers → TellsSome report.old.is_wanted 1 (lines text.now) answers (E.held err.old) (E.held err.new) }
     ensures wanted { report.new.is_wanted ≡ report.old.is_wanted }
     ensures count { OnOk result (report.new.lines ≡ length (lines text.now)) }
+    ensures settings { crew.new.settings ≡ crew.old.settings }
+    ensures swept { OnOk result (HasSwept crew.old.settings (length (lines text.now)) crew.new.swept) }
     ensures counts { SinkCounts (O.faults out.old) (O.faults out.new) (E.faults err.old) (E.faults err.new) result }
     ensures later { E.faults err.old ≤ E.faults err.new }
     ensures stops { IfErr result IsDeviceStop }
@@ -46,10 +54,12 @@ pub(crate) fn speak_lines<O: Sink, E: Sink>(
     while !rest.is_empty() {
         let batch = cut_batch(alloc, rest)?;
         let now_read = speak_batch(
+            rt,
             alloc,
+            watch,
             report,
             speaker,
-            caller,
+            crew,
             &batch.lines,
             number,
             out,
@@ -64,19 +74,25 @@ pub(crate) fn speak_lines<O: Sink, E: Sink>(
 }
 
 /// Speaks the lines of a batch, which are numbered on from this number, and answers whether each was read.
-fn speak_batch<O: Sink, E: Sink>(
+fn speak_batch<R: Threads + Sync, O: Sink, E: Sink, W: Watch + Sync>(
+    rt: &R,
     alloc: Global,
+    watch: &W,
     report: &mut Report,
     speaker: &Speaker,
-    caller: &mut Caller,
+    crew: &mut Crew,
     batch: &[&[u8]],
     first: u64,
     out: &mut O,
     err: &mut E,
 ) -> Result<bool, Stop>
+    requires first { 1 ≤ first }
     requires numbers { first + length batch.now < 2 ^ 64 }
-    requires ready { IsCallerOf speaker.now.normaliser caller.old }
-    ensures ready { IsCallerOf speaker.now.normaliser caller.new }
+    requires ready { IsCrewOf speaker.now.normaliser crew.old }
+    requires room { swept_sum crew.old.swept + crew.old.settings.places * crew.old.settings.sweep < 2 ^ 64 }
+    ensures ready { OnOk result (IsCrewOf speaker.now.normaliser crew.new) }
+    ensures settings { crew.new.settings ≡ crew.old.settings }
+    ensures swept { OnOk result (SweptOn crew.old.settings crew.old.swept crew.new.swept) }
     ensures done { IfOk result (λ is_read. Speaks (says_of speaker.now) report.old.is_wanted first report.old.total report.new.total (lines_of batch.now) (O.held out.old) (O.held out.new) (E.held err.old) (E.held err.new) is_read) }
     ensures out_front { (answers : List Answer) → AllSaid (says_of speaker.now) (lines_of batch.now) answers → AppendsPrefix (O.held out.old) (O.held out.new) (written answers) }
     ensures err_front { (answers : List Answer) → AllSaid (says_of speaker.now) (lines_of batch.now) answers → TellsSome report.old.is_wanted first (lines_of batch.now) answers (E.held err.old) (E.held err.new) }
@@ -85,7 +101,7 @@ fn speak_batch<O: Sink, E: Sink>(
     ensures later { E.faults err.old ≤ E.faults err.new }
     ensures stops { IfErr result IsDeviceStop }
 {
-    let answers = answer_lines(alloc, speaker, caller, batch);
+    let answers = answer_batch(rt, alloc, watch, speaker, crew, batch, first)?;
     let told = tell_answers(alloc, report.is_wanted, &answers.all, first);
     put_both(out, &told.words, err, &told.faults)?;
     if answers.is_whole && told.is_whole {

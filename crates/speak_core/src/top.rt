@@ -42,16 +42,17 @@ use std::thread::Threads;
 /// Status 0: each line was read, or the rules were checked. 1: some line is refused. 2: the words are wrong. 3: the setup, a grammar or a rule is
 /// refused. 4: a device failed, in place of 3 the shelf. 5: memory is wanting. 6: the input is too long. From 2 on, the cause is told to `err` last.
 ///
-/// The watch isn't told of any line yet.
+/// Lines are handled in batches of 1,024, side by side by so many workers, from 1, as the words say: a line by the worker whose number less one is
+/// what the line's number less one leaves over. The watch is told before and after each line, by its worker.
 pub fn speak<R: Threads + Sync, H: Shelf, S: Source, O: Sink, E: Sink, W: Watch + Sync>(
-    _rt: &R,
+    rt: &R,
     alloc: Global,
     words: &[String],
     shelf: &mut H,
     source: &mut S,
     out: &mut O,
     err: &mut E,
-    _watch: &W,
+    watch: &W,
 ) -> u8
     ensures range { result ≤ 6 }
 
@@ -95,7 +96,7 @@ pub fn speak<R: Threads + Sync, H: Shelf, S: Source, O: Sink, E: Sink, W: Watch 
     ensures kept { IfSome (job_in words.now) (λ job. reads_input job ≡ false → S.left source.new ≡ S.left source.old) }
     ensures files { H.files shelf.new ≡ H.files shelf.old }
 {
-    finish(run(alloc, words, shelf, source, out, err), err)
+    finish(run(rt, alloc, watch, words, shelf, source, out, err), err)
 }
 
 /// Tells why a run ended, where it didn't speak all lines, and answers its status.

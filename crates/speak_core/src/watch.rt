@@ -1,4 +1,4 @@
-/// Is told before and after each line, by each worker. It isn't told of any line yet.
+/// Is told before and after each line, by the line's worker. Workers and lines are numbered from 1.
 pub trait Watch {
     fn before(&self, worker: u32, line: u64);
 

@@ -58,6 +58,14 @@ places-parses : (a : App) → (a ≡ command) ⊎ (a ≡ built command) → Pars
 places-parses a (inl is) = rw is (search rules)
 places-parses a (inr is) = rw is (search rules)
 
+jobs-parses : (a : App) → (a ≡ command) ⊎ (a ≡ built command) → Parses (codes "jobs") (Signed (pos 1) (pos 63)) a.top.rules
+jobs-parses a (inl is) = rw is (search rules)
+jobs-parses a (inr is) = rw is (search rules)
+
+sweep-parses : (a : App) → (a ≡ command) ⊎ (a ≡ built command) → Parses (codes "sweep") (Signed (pos 0) (pos 10000)) a.top.rules
+sweep-parses a (inl is) = rw is (search rules)
+sweep-parses a (inr is) = rw is (search rules)
+
 plain-top : (a : App) → (a ≡ command) ⊎ (a ≡ built command) → a.top.is_plain ≡ true
 plain-top a (inl is) = rw is refl
 plain-top a (inr is) = rw is refl
@@ -75,6 +83,8 @@ pub record HasNumbers (m : ArgMatches) : Type 0 where
   pub count : HasNumberIn 1 100000 (codes "count") (found_of m)
   pub start : HasNumberIn 0 2147483647 (codes "start") (found_of m)
   pub places : HasNumberIn 1 4096 (codes "places") (found_of m)
+  pub jobs : HasNumberIn 1 63 (codes "jobs") (found_of m)
+  pub sweep : HasNumberIn 0 10000 (codes "sweep") (found_of m)
 
 pub numbers_found : (old new : Command) (m : ArgMatches) → app_of old ≡ command → BuildsOrBreaks old new → (is_broken new ≡ true → ⊥)
     → ((fields_of new).has_globals ≡ false → IsParsed new (found_of m) (has_subcommand m)) → HasNumbers m
@@ -86,4 +96,6 @@ numbers_found old new m is after whole parsed =
       count = given new (found_of m) (codes "count") (Signed (pos 1) (pos 100000)) values bare.0 (λ e. cc) (count-parses (app_of new) app);
       start = given new (found_of m) (codes "start") (Signed (pos 0) (pos 2147483647)) values bare.0 (λ e. cc) (start-parses (app_of new) app);
       places = given new (found_of m) (codes "places") (Signed (pos 1) (pos 4096)) values bare.0 (λ e. cc) (places-parses (app_of new) app);
+      jobs = given new (found_of m) (codes "jobs") (Signed (pos 1) (pos 63)) values bare.0 (λ e. cc) (jobs-parses (app_of new) app);
+      sweep = given new (found_of m) (codes "sweep") (Signed (pos 0) (pos 10000)) values bare.0 (λ e. cc) (sweep-parses (app_of new) app);
     }

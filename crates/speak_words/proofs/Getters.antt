@@ -59,6 +59,6 @@ module _ (s : Settings) where
   settings-asked P holds None = tt
   settings-asked P holds (Some mode) = holds
 
-pub same_settings : (places places2 : ℕ) (report report2 : Bool) → places ≡ places2 → report ≡ report2
-    → ◌≡◌ {A = Settings} (record { places = places; report = report }) (record { places = places2; report = report2 })
-same_settings places places2 report report2 p q = rw (p, q) refl
+pub same_settings : (places places2 jobs jobs2 sweep sweep2 : ℕ) (report report2 : Bool) → places ≡ places2 → jobs ≡ jobs2 → sweep ≡ sweep2 → report ≡ report2
+    → ◌≡◌ {A = Settings} (record { places = places; jobs = jobs; sweep = sweep; report = report }) (record { places = places2; jobs = jobs2; sweep = sweep2; report = report2 })
+same_settings places places2 jobs jobs2 sweep sweep2 report report2 p j s r = rw (p, j, s, r) refl

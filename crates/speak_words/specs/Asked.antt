@@ -56,6 +56,8 @@ is_given name rows = bytes_eq (unwrap_or (first_of name rows) (codes "false")) (
 abbrev pub settings_by : List Row → Settings
 settings_by rows = record {
   places = option_map_or number (one_of (codes "places") rows) 256;
+  jobs = option_map_or number (one_of (codes "jobs") rows) 1;
+  sweep = option_map_or number (one_of (codes "sweep") rows) 0;
   report = is_given (codes "report") rows;
 }
 
@@ -63,9 +65,11 @@ settings_by rows = record {
 unfoldable pub settings_for : List Text → Settings
 settings_for words = settings_by (matches_of command words)
 
--- the bounds of the number of places
-abbrev pub HasPlaces : Settings → Type 0
-HasPlaces settings = (1 ≤ settings.places) × (settings.places ≤ 4096)
+-- the bounds of the numbers of places, of workers and of rounds
+pub record AreInBounds (settings : Settings) : Type 0 where
+  pub places : (1 ≤ settings.places) × (settings.places ≤ 4096)
+  pub jobs : (1 ≤ settings.jobs) × (settings.jobs ≤ 63)
+  pub sweep : settings.sweep ≤ 10000
 
 -- the bounds of what a mode needs
 abbrev pub InBounds : Mode → Type 0

@@ -18,7 +18,12 @@ flag name = record (text_option name) { action = Some SetTrue }
 
 -- the command with the options that say how a job is done
 abbrev pub with_settings : App → App
-with_settings jobs = with_rule (with_rule jobs (number_option (codes "places") 1 4096)) (flag (codes "report"))
+with_settings jobs = fold with_rule jobs (
+    number_option (codes "places") 1 4096
+    ∷ number_option (codes "jobs") 1 63
+    ∷ number_option (codes "sweep") 0 10000
+    ∷ flag (codes "report")
+    ∷ [])
 
 -- the command with its options
 abbrev pub command : App

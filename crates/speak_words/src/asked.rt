@@ -12,6 +12,10 @@ pub struct Asked<'a> {
 pub struct Settings {
     /// How many expansions are kept at once: 1 to 4,096.
     pub places: u32,
+    /// How many workers speak lines side by side: 1 to 63.
+    pub jobs: u32,
+    /// How often one more worker sweeps the table while a batch of lines is spoken: 0 to 10,000. With 0 there is none.
+    pub sweep: u32,
     /// Whether it is told what was looked up for each line.
     pub report: bool,
 }

@@ -33,6 +33,22 @@ pub(crate) const PLACES: NumberOption = NumberOption {
     default: 256,
 };
 
+/// How many workers speak lines.
+pub(crate) const JOBS: NumberOption = NumberOption {
+    name: "jobs",
+    least: 1,
+    most: 63,
+    default: 1,
+};
+
+/// How many rounds of the table are swept beside a batch of lines.
+pub(crate) const SWEEP: NumberOption = NumberOption {
+    name: "sweep",
+    least: 0,
+    most: 10_000,
+    default: 0,
+};
+
 /// An option whose value is a number, from the least to the most.
 pub(crate) struct NumberOption {
     pub(crate) name: &'static str,

@@ -6,7 +6,7 @@ ghost use Rattle.speak_words.specs.Asked.{number};
 ghost use Rattle.speak_words.specs.Numbers.{HasNumberIn};
 ghost use Rattle.speak_words.specs.Options.{command, flag, number_option, text_option, with_settings};
 
-use crate::numbers::{COUNT, PLACES, START};
+use crate::numbers::{COUNT, JOBS, PLACES, START, SWEEP};
 use clap::{Arg, ArgAction, Command};
 use std::alloc::{AllocError, Global};
 
@@ -26,7 +26,10 @@ pub(crate) fn command<'a>(alloc: Global) -> Result<Command<'a>, AllocError>
 fn with_settings<'a>(alloc: Global, jobs: Command<'a>) -> Result<Command<'a>, AllocError>
     ensures { IfOk result (λ c. app_of c ≡ with_settings (app_of jobs.entry)) }
 {
-    jobs.arg(PLACES.option(alloc))?.arg(flag(alloc, "report"))
+    jobs.arg(PLACES.option(alloc))?
+        .arg(JOBS.option(alloc))?
+        .arg(SWEEP.option(alloc))?
+        .arg(flag(alloc, "report"))
 }
 
 /// An option whose value is a text.

@@ -3,11 +3,11 @@ ghost use Rattle.std.specs.Prelude.{◌≡◌, ◌≤◌, ◌<◌, ◌^◌, IfOk
 ghost use Rattle.std.specs.Option.{option_map};
 ghost use Rattle.std.specs.String.{string_bytes};
 ghost use Rattle.clap.specs.Words.{found_of, rows_of};
-ghost use Rattle.speak_words.specs.Asked.{HasPlaces, InBounds, job, job_by, job_for, job_of, settings_by, settings_for};
+ghost use Rattle.speak_words.specs.Asked.{AreInBounds, InBounds, job, job_by, job_for, job_of, settings_by, settings_for};
 ghost use Rattle.speak_words.specs.Numbers.{HasNumberIn};
 
 use crate::asked::{Asked, Mode, Settings};
-use crate::numbers::{COUNT, PLACES, START};
+use crate::numbers::{COUNT, JOBS, PLACES, START, SWEEP};
 use crate::options::command;
 use clap::ArgMatches;
 use clap::error::ErrorKind;
@@ -18,7 +18,7 @@ pub fn read_words<'a>(alloc: Global, words: &'a [String]) -> Result<Option<Asked
     ensures asked { IfOk result (λ asked. option_map (λ a. job_of a.mode) asked ≡ job_for (map string_bytes words.entry.now)) }
     ensures settings { IfOk result (λ asked. IfSome asked (λ a. a.settings ≡ settings_for (map string_bytes words.entry.now))) }
     ensures bounds { IfOk result (λ asked. IfSome asked (λ a. InBounds a.mode)) }
-    ensures places { IfOk result (λ asked. IfSome asked (λ a. HasPlaces a.settings)) }
+    ensures numbers { IfOk result (λ asked. IfSome asked (λ a. AreInBounds a.settings)) }
 {
     let mut command = command(alloc)?;
     match command.try_get_matches_from_mut(words) {
@@ -35,10 +35,12 @@ fn asked<'a>(matches: &ArgMatches<'a>) -> Option<Asked<'a>>
     requires count { HasNumberIn 1 100000 (codes "count") (found_of matches.now) }
     requires start { HasNumberIn 0 2147483647 (codes "start") (found_of matches.now) }
     requires places { HasNumberIn 1 4096 (codes "places") (found_of matches.now) }
+    requires jobs { HasNumberIn 1 63 (codes "jobs") (found_of matches.now) }
+    requires sweep { HasNumberIn 0 10000 (codes "sweep") (found_of matches.now) }
     ensures job { option_map (λ a. job_of a.mode) result ≡ job_by (rows_of (found_of matches.now)) }
     ensures settings { IfSome result (λ a. a.settings ≡ settings_by (rows_of (found_of matches.now))) }
     ensures bounds { IfSome result (λ a. InBounds a.mode) }
-    ensures places { IfSome result (λ a. HasPlaces a.settings) }
+    ensures numbers { IfSome result (λ a. AreInBounds a.settings) }
 {
     let count = COUNT.value(matches);
     let start = START.value(matches);
@@ -50,13 +52,22 @@ fn asked<'a>(matches: &ArgMatches<'a>) -> Option<Asked<'a>>
 /// How it is to be done.
 fn settings(matches: &ArgMatches<'_>) -> Settings
     requires places { HasNumberIn 1 4096 (codes "places") (found_of matches.now) }
+    requires jobs { HasNumberIn 1 63 (codes "jobs") (found_of matches.now) }
+    requires sweep { HasNumberIn 0 10000 (codes "sweep") (found_of matches.now) }
     ensures settings { result ≡ settings_by (rows_of (found_of matches.now)) }
-    ensures places { HasPlaces result }
+    ensures numbers { AreInBounds result }
 {
     let places = PLACES.value(matches);
+    let jobs = JOBS.value(matches);
+    let sweep = SWEEP.value(matches);
     // A flag has one value, "true" or "false".
     let report = matches.get_str("report").unwrap_or("false") == "true";
-    Settings { places, report }
+    Settings {
+        places,
+        jobs,
+        sweep,
+        report,
+    }
 }
 
 /// The mode of a name, with what belongs to it.

@@ -1,16 +1,16 @@
-use Rattle.std.proofs.Common.{List, [], ◌∷◌, ◌++◌, All, subst}
-use Rattle.std.proofs.lemmas.List.Elements.{All-head, All-tail}
-use Rattle.normaliser.specs.Searches.{IsNewCallerOf}
-use Rattle.shared_cascade.specs.declared.callers.Caller.{Caller}
+use Rattle.std.proofs.Common.{refl}
+use Rattle.std.proofs.lemmas.List.Elements.{All-weaker}
+use Rattle.normaliser.specs.Searches.{IsCallerOf, IsNewCallerOf}
 use Rattle.speak_core.proofs.loading.loaded.Goals as goal
 
-last_has : (P : Caller → Type 0) (rest : List Caller) (x : Caller) → All P (rest ++ x ∷ []) → P x
-last_has P [] x all = All-head P x [] all
-last_has P (y ∷ rest) x all = last_has P rest x (All-tail P y (rest ++ x ∷ []) all)
-
 pub returns-clause-ready : goal.returns-clause-ready
-returns-clause-ready c =
-    let P = IsNewCallerOf c.args.normaliser in
-    let parts = rw c.unwrap-caller.ensures at c.pop.ensures.items in
-    let new = last_has P c.pop.new.self.items c.unwrap-caller.result (subst (All P) parts c.requires.ready) in
-    new.ready
+returns-clause-ready c = record {
+  ready = record {
+    callers = All-weaker (IsNewCallerOf c.args.normaliser) (IsCallerOf c.args.normaliser) (λ caller new. new.ready) c.args.callers.items c.requires.new;
+    count = c.requires.count;
+    bounds = c.requires.settings;
+    places = c.requires.places;
+  };
+  by = refl;
+  unswept = c.none_swept.ensures;
+}

@@ -1,5 +1,6 @@
 use Rattle.speak_words.specs.Asked.{job_of}
 use Rattle.speak_core.specs.Devices.{seen}
+use Rattle.speak_core.specs.Reports.{reporting_of}
 use Rattle.speak_core.proofs.Runs.{found_job, found_report, owes_nothing, run_output, run_speaks, run_told, tells_nothing}
 use Rattle.speak_core.proofs.running.run.Goals as goal
 
@@ -23,7 +24,7 @@ returns-in_err-work-clause-faults_front g c = tells_nothing c.args.words.now (g.
 
 pub returns-clause-done : goal.returns-clause-done
 returns-clause-done g c =
-    run_speaks c.args.words.now (job_of c.in-Some.asked.mode) (found_job _ _ _ c.in-Some.is c.in_ok-asked.ensures.asked) c.in_ok-work.work c.in-Some.asked.settings.report (found_report (λ a. a.settings) _ _ _ c.in-Some.is c.in_ok-asked.ensures.settings) (g.H.Shelf.files c.args.shelf.now) (g.S.Source.left c.args.source.now)
+    run_speaks c.args.words.now (job_of c.in-Some.asked.mode) (found_job _ _ _ c.in-Some.is c.in_ok-asked.ensures.asked) c.in_ok-work.work (reporting_of c.in-Some.asked.settings) (found_report (λ a. a.settings) _ _ _ c.in-Some.is c.in_ok-asked.ensures.settings) (g.H.Shelf.files c.args.shelf.now) (g.S.Source.left c.args.source.now)
     (seen g.H.Shelf g.S.Source g.O.Sink g.E.Sink c.args.shelf.now c.args.source.now c.args.out.now c.args.err.now c.find_work.new.shelf c.do_work.new.source c.do_work.new.out c.do_work.new.err) c.do_work.result c.in_ok-work.ensures.finds c.do_work.ensures.done
 
 pub returns-clause-words_front : goal.returns-clause-words_front
@@ -32,4 +33,4 @@ returns-clause-words_front g c =
 
 pub returns-clause-faults_front : goal.returns-clause-faults_front
 returns-clause-faults_front g c =
-    run_told c.args.words.now (job_of c.in-Some.asked.mode) (found_job _ _ _ c.in-Some.is c.in_ok-asked.ensures.asked) c.in_ok-work.work c.in-Some.asked.settings.report (found_report (λ a. a.settings) _ _ _ c.in-Some.is c.in_ok-asked.ensures.settings) (g.E.Sink.held c.args.err.now) (g.E.Sink.held c.do_work.new.err) (g.H.Shelf.files c.args.shelf.now) (g.S.Source.left c.args.source.now) c.in_ok-work.ensures.finds c.do_work.ensures.err_front
+    run_told c.args.words.now (job_of c.in-Some.asked.mode) (found_job _ _ _ c.in-Some.is c.in_ok-asked.ensures.asked) c.in_ok-work.work (reporting_of c.in-Some.asked.settings) (found_report (λ a. a.settings) _ _ _ c.in-Some.is c.in_ok-asked.ensures.settings) (g.E.Sink.held c.args.err.now) (g.E.Sink.held c.do_work.new.err) (g.H.Shelf.files c.args.shelf.now) (g.S.Source.left c.args.source.now) c.in_ok-work.ensures.finds c.do_work.ensures.err_front

@@ -1,18 +1,19 @@
-use Rattle.std.proofs.Common.{◌≤◌, ◌+◌, ◌^◌, ◌∙◌, length, ap, refl, arith}
+use Rattle.std.proofs.Common.{◌≤◌, ◌-◌, ◌+◌, ◌^◌, ◌∙◌, length, ap, refl, arith}
 use Rattle.speak_core.specs.Parts.{says_of}
 use Rattle.speak_core.proofs.Said.{speaker_once}
 use Rattle.speak_core.proofs.Sums.{batch_count, summed_all, summed_count, summed_cut, summed_front, summed_more, summed_none}
+use Rattle.speak_core.proofs.Sweeping.{swept_more, swept_none}
 use Rattle.speak_core.proofs.sampling.sum_up.Goals as goal
 
 pub loop-done-init : goal.loop-done-init
 loop-done-init g c =
-    (summed_none (says_of c.args.speaker.now) _ _ _ _ _ _ c.new-summary.ensures, omega arith, c.requires.start, refl, c.requires.ready)
+    (summed_none (says_of c.args.speaker.now) _ _ _ _ _ _ c.new-summary.ensures, omega arith, c.requires.start, refl, c.requires.ready, refl, swept_none c.args.crew.now.settings (c.args.count - 0) c.args.crew.now.swept c.requires.unswept)
 
 pub returns-in_err-lines-clause-front : goal.returns-in_err-lines-clause-front
 returns-in_err-lines-clause-front g c = summed_front (says_of c.args.speaker.now) _ _ _ _ _ _ _ _ _ _ _ c.loop-done.invariant.0 (speaker_once c.args.speaker.now) c.args.count c.loop-done.invariant.1
 
 pub sum_batch-requires-clause-room : goal.sum_batch-requires-clause-room
-sum_batch-requires-clause-room g c =
+sum_batch-requires-clause-room g c κs within =
     let counted = summed_count (says_of c.args.speaker.now) _ _ _ _ _ _ _ _ _ _ _ c.loop-done.invariant.0 in
     let size = c.min-size.ensures in
     let lines = ap length c.deref.ensures.value ∙ batch_count (says_of c.args.speaker.now) _ _ _ c.in_ok-lines.ensures.lines in
@@ -37,7 +38,11 @@ loop-done-preserved g c =
       omega (arith, size, fits),
       c.in_ok-lines.ensures.below,
       c.sum_batch.ensures.wanted ∙ c.loop-done.invariant.3,
-      c.sum_batch.ensures.ready,
+      c.in_ok-sum_batch.ensures.ready,
+      c.sum_batch.ensures.settings ∙ c.loop-done.invariant.5,
+      swept_more c.args.crew.now.settings c.loop-done.done (c.args.count - c.loop-done.done) c.loop-done.crew.swept c.loop-done.invariant.6 (let less = c.loop-done-test.true in omega (arith, less)) c.min-size.result (c.args.count - (c.loop-done.done + c.min-size.result)) c.sum_batch.new.crew.swept
+          (let less = c.loop-done-test.true in omega (arith, size, less)) (omega (arith, size)) (λ left. omega (arith, size, left))
+          (rw c.loop-done.invariant.5 at c.in_ok-sum_batch.ensures.swept),
     )
 
 pub returns-clause-front : goal.returns-clause-front

@@ -1,7 +1,8 @@
 use Rattle.std.proofs.Common.{◌≡◌, ◌≤◌, ◌<◌, ◌-◌, ◌^◌}
-use Rattle.normaliser.specs.Searches.{IsCallerOf}
+use Rattle.speak_core.specs.Crews.{IsCrewOf}
 use Rattle.speak_core.specs.Parts.{says_of}
 use Rattle.speak_core.proofs.Sums.{SummedTo}
+use Rattle.speak_core.proofs.Sweeping.{SweptSoFar}
 use Rattle.speak_core.proofs.sampling.sum_up.Given as goal
 
 abbrev pub invariant-loop-done : goal.invariant-loop-done
@@ -10,7 +11,9 @@ invariant-loop-done g l =
     × (l.done ≤ l.count)
     × (l.state < 2 ^ 31)
     × (l.report.is_wanted ≡ l.initial.report.is_wanted)
-    × IsCallerOf l.speaker.normaliser l.caller
+    × IsCrewOf l.speaker.normaliser l.crew
+    × (l.crew.settings ≡ l.initial.crew.settings)
+    × SweptSoFar l.initial.crew.settings l.done (l.count - l.done) l.crew.swept
 
 abbrev pub decreases-loop-done : goal.decreases-loop-done
 decreases-loop-done g l = l.count - l.done

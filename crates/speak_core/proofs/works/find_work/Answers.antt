@@ -16,3 +16,6 @@ pub returns-in-Sample-clause-finds : goal.returns-in-Sample-clause-finds
 returns-in-Sample-clause-finds g c =
     job_finds (g.H.Shelf.files c.args.shelf.now) (SampledBy c.in-Sample.count c.in-Sample.start) (job_of c.args.job.now) (sample c.in-Sample.count c.in-Sample.start) c.find_sample.result (ap job_of c.in-Sample.is) (sample_sampled c.in-Sample.count c.in-Sample.start)
     (where_known (g.H.Shelf.files c.args.shelf.now) _ (λ files. c.find_sample.ensures.finds))
+
+pub returns-in-Check-clause-ready : goal.returns-in-Check-clause-ready
+returns-in-Check-clause-ready g c = c.find_sizes.ensures.ready c.args.settings

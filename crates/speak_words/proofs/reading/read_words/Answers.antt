@@ -25,6 +25,20 @@ asked-requires-clause-places c =
     c.in-Ok.ensures.after c.in-Ok.ensures.fails c.in-Ok.ensures.ok.1 in
     numbers.places
 
+pub asked-requires-clause-jobs : goal.asked-requires-clause-jobs
+asked-requires-clause-jobs c =
+    let numbers : HasNumbers c.in-Ok.matches =
+    numbers_found c.in_ok-command.command c.try_get_matches_from_mut.new.self c.in-Ok.matches c.in_ok-command.ensures
+    c.in-Ok.ensures.after c.in-Ok.ensures.fails c.in-Ok.ensures.ok.1 in
+    numbers.jobs
+
+pub asked-requires-clause-sweep : goal.asked-requires-clause-sweep
+asked-requires-clause-sweep c =
+    let numbers : HasNumbers c.in-Ok.matches =
+    numbers_found c.in_ok-command.command c.try_get_matches_from_mut.new.self c.in-Ok.matches c.in_ok-command.ensures
+    c.in-Ok.ensures.after c.in-Ok.ensures.fails c.in-Ok.ensures.ok.1 in
+    numbers.sweep
+
 pub returns-in-Ok-clause-settings : goal.returns-in-Ok-clause-settings
 returns-in-Ok-clause-settings c =
     settings-taken _ (map string_bytes c.args.words.now) c.in-Ok.matches c.asked.result c.in_ok-command.ensures c.in-Ok.ensures.ok.2 c.asked.ensures.settings

@@ -15,4 +15,6 @@ returns-clause-settings c =
     let value : c.unwrap_or.result.now ≡ unwrap_or (first_of (codes "report") rows) (codes "false") =
     ap (λ s. s.now) c.unwrap_or.ensures ∙ unwrap_or-now c.get_str.result _ ∙ ap (λ (o : Option Text). unwrap_or o (codes "false")) given in
     let places : c.value-places.result ≡ option_map_or number (one_of (codes "places") rows) 256 = c.value-places.ensures.value in
-    same_settings _ _ _ _ places (c.eq-report.ensures ∙ ap (λ (t : Text). bytes_eq t (codes "true")) value)
+    let jobs : c.value-jobs.result ≡ option_map_or number (one_of (codes "jobs") rows) 1 = c.value-jobs.ensures.value in
+    let sweep : c.value-sweep.result ≡ option_map_or number (one_of (codes "sweep") rows) 0 = c.value-sweep.ensures.value in
+    same_settings _ _ _ _ _ _ _ _ places jobs sweep (c.eq-report.ensures ∙ ap (λ (t : Text). bytes_eq t (codes "true")) value)

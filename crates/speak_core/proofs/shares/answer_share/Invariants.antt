@@ -1,0 +1,12 @@
+use Rattle.std.proofs.Common.{◌≡◌, ◌+◌}
+use Rattle.normaliser.specs.Searches.{IsCallerOf}
+use Rattle.speak_core.specs.Parts.{says_of}
+use Rattle.speak_core.proofs.Dealing.{HeardSoFar}
+use Rattle.speak_core.proofs.shares.answer_share.Given as goal
+
+abbrev pub invariant-loop-line : goal.invariant-loop-line
+invariant-loop-line g l =
+    HeardSoFar (says_of l.speaker) l.initial.share l.line-index l.heard.items
+    × (l.number ≡ l.initial.share.first + l.line-index)
+    × IsCallerOf l.speaker.normaliser l.share.caller
+    × (l.share ≡ record l.initial.share { caller = l.share.caller })

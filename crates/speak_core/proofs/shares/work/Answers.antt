@@ -1,0 +1,11 @@
+use Rattle.speak_core.proofs.Sweeping.{sweep_found}
+use Rattle.speak_core.proofs.shares.work.Goals as goal
+
+pub returns : goal.returns
+returns g c =
+    let swept = c.sweep-swept.ensures.swept in
+    record {
+      ready = c.sweep-swept.ensures.ready;
+      heard = c.answer_share-heard.ensures.heard;
+      swept = sweep_found c.args.speaker.now.normaliser.shared c.answer_share-heard.new.share.caller c.sweep-swept.new.caller _ _ swept.0 c.sweep-swept.result swept.1 swept.2;
+    }
