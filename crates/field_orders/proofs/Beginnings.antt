@@ -1,13 +1,13 @@
 -- A record's table and first state.
-use Rattle.std.proofs.Common.{◌≡◌, ◌∙◌, inl, inr, sym, ap, subst, refl, arith, ℕ, zero, suc, ◌≤◌, ◌<◌, List, [], ◌∷◌, ◌++◌, length, map, Option, Some, None, get_or, append_assoc, length-append, Bool, false}
+use Rattle.std.proofs.Common.{◌≡◌, ◌∙◌, sym, ap, subst, refl, arith, ℕ, zero, suc, ◌≤◌, ◌<◌, List, [], ◌∷◌, ◌++◌, length, map, Option, Some, None, append_assoc, length-append, Bool, false}
 use Rattle.std.specs.Prelude.{slice_get, All}
 use Rattle.std.proofs.lemmas.Option.{slice_get-get_or, get_or_from_slice_get}
 use Rattle.std.proofs.lemmas.List.{append-nil, drop_more}
 use Rattle.std.proofs.lemmas.List.Elements.{All-nil, All-push}
 use Rattle.weighted_relations.specs.Graphs.{GraphReads}
 use Rattle.weighted_relations.specs.Relations.{Same}
-use Rattle.state_table.specs.Numbers.{Distinct, Numbers}
-use Rattle.state_table.proofs.Numbering.{numbers_only}
+use Rattle.state_table.specs.Numbers.{Numbers}
+use Rattle.state_table.proofs.Numbering.{fresh_at}
 use Rattle.token_record.specs.Fields.{no_fields, chain, field_of, fields_of}
 use Rattle.token_record.specs.declared.tokens.Record.{Record}
 use Rattle.field_orders.specs.declared.states.State.{State}
@@ -101,15 +101,14 @@ begun_reads r t root b x y w =
     )
 
 -- the one state of a table where nothing is left
-pub end_means : (t : List Written) (old new : List State) (k : ℕ) → old ≡ [] → Distinct new → Numbers old new End k → AllMean t new
-end_means t old new k e d h j l = elim (numbers_only h d j (get_or new j End) (slice_get-get_or new j End l)) [
-  | inl o ↦ absurd (let z : None ≡ Some (get_or new j End) = ap (λ v. slice_get v j) (sym e) ∙ o in cc)
-  | inr o ↦ (nothing, at_end (slice_get-get_or new j End l ∙ ap Some o.0))
-]
+pub end_means : (t : List Written) (old new : List State) (k : ℕ) → old ≡ [] → Numbers old new End k → AllMean t new
+end_means t old new k e h j l =
+    let none : length old ≤ j = (let z : length old ≡ 0 = ap length e in omega (arith, z)) in
+    (nothing, at_end (slice_get-get_or new j End l ∙ ap Some (fresh_at h End j none l)))
 
-pub source_begun : (t : List Written) (keep : Bool) (s0 s1 s2 : List State) (first start root : ℕ) → AreWritten t → s0 ≡ [] → Distinct s1 → Numbers s0 s1 End first
+pub source_begun : (t : List Written) (keep : Bool) (s0 s1 s2 : List State) (first start root : ℕ) → AreWritten t → s0 ≡ [] → Numbers s0 s1 End first
     → Makes t s1 s2 first start (λ r. bytes_then (field_at t root).text (fields_then (field_at t root).inner r)) → IsSource (record { table = t; keep = keep; states = s2; start = start; root = root })
-source_begun t keep s0 s1 s2 first start root w e d h m = record { written = w; meant = m.grew.meant (end_means t s0 s1 first e d h); first = m.means nothing (at_end h.stored) }
+source_begun t keep s0 s1 s2 first start root w e h m = record { written = w; meant = m.grew.meant (end_means t s0 s1 first e h); first = m.means nothing (at_end h.stored) }
 
 pub source_grew : (t : List Written) (keep : Bool) (s u : List State) (start root : ℕ) → IsSource (record { table = t; keep = keep; states = s; start = start; root = root }) → Grew t s u → IsSource (record { table = t; keep = keep; states = u; start = start; root = root })
 source_grew t keep s u start root h g = record { written = h.written; meant = g.meant h.meant; first = means_kept t s u g.keeps h.first }

@@ -7,6 +7,11 @@ use Rattle.field_orders.specs.Remainders.{Written, Rest, nothing, byte, fields, 
 use Rattle.field_orders.specs.declared.states.State.{State}
 use Rattle.field_orders.specs.declared.states.State.TheVariants.{End, Byte, Text, Fields}
 
+-- Some of the states stand in a second list, and the number of each, among all of them, in a third.
+pub record AreMet (all met : List State) (numbers : List ℕ) : Type 0 where
+  pub few : length numbers ≤ length met
+  pub each : (i n : ℕ) (s : State) → slice_get numbers i ≡ Some n → slice_get met i ≡ Some s → slice_get all n ≡ Some s
+
 -- the state of a number stands for what is left to write
 pub data Means (t : List Written) (s : List State) : ℕ → Rest → Type 0 where
   at_end : {k : ℕ} → slice_get s k ≡ Some End → Means t s k nothing

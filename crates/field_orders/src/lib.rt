@@ -6,6 +6,7 @@
 #![tactic(auto)]
 
 mod acceptors;
+mod numbered;
 mod sources;
 mod states;
 mod tables;

@@ -7,9 +7,9 @@ ghost use Rattle.field_orders.specs.Orders.{IsOrderable, OrdersOf};
 ghost use Rattle.field_orders.specs.Remainders.{Rest, final_at};
 ghost use Rattle.field_orders.specs.Sources.{HasArcs, IsMore, IsSource, IsState, graph_of};
 
+use crate::numbered::Numbered;
 use crate::states::{State, put_whole, row_of};
 use crate::tables::{Part, add, number_fields};
-use state_table::StateTable;
 use std::alloc::{AllocError, Global};
 use std::marker::Model;
 use token_record::Record;
@@ -26,7 +26,7 @@ use weighted_relations::Arc;
 pub struct OrderSource {
     table: Vec<Part>,
     keep: bool,
-    states: StateTable<State>,
+    states: Numbered,
     start: usize,
     root: usize,
 }
@@ -53,8 +53,8 @@ impl OrderSource {
         let mut text = Vec::from_slice(alloc, r.class.bytes())?;
         text.push(b'|')?;
         let root = add(&mut table, text, inner, false)?;
-        let mut states = StateTable::new(alloc);
-        let end = states.number(State::End)?;
+        let mut states = Numbered::new(alloc);
+        let end = states.put(State::End)?;
         let start = put_whole(alloc, &mut states, &table, root, end)?;
         Ok(OrderSource {
             table,
@@ -84,6 +84,8 @@ impl OrderSource {
     }
 
     /// The arcs of a state. Each reads and writes one byte, without weight.
+    ///
+    /// Where a state is asked for again, its arcs may lead to states with new numbers, from which the same is left to write.
     pub fn arcs(&mut self, alloc: Global, state: usize) -> Result<Vec<Arc>, AllocError>
         requires source { IsSource self.old }
         requires state { state < length self.old.states }
@@ -101,6 +103,6 @@ impl OrderSource {
         requires state { state < length self.now.states }
         ensures last { (r : Rest) → IsState self.now state r → final_at r ≡ (if result then Some 0 else None) }
     {
-        matches!(self.states.key(state), State::End)
+        matches!(self.states.state(state), State::End)
     }
 }

@@ -1,4 +1,4 @@
-//! What is left to write: states that a state table numbers as they are met.
+//! What is left to write, as states that are numbered.
 
 ghost use Rattle.std.specs.Prelude.{◌≡◌, ◌≤◌, ◌<◌, Bool, List, All, IfOk, OnOk, length, drop, [], ◌∷◌};
 ghost use Rattle.std.specs.List.{remove};
@@ -8,13 +8,14 @@ ghost use Rattle.fst_core.specs.Placed.{label_arc};
 ghost use Rattle.field_orders.specs.Remainders.{AreWritten, Rest, Written, arc_at, behind, byte, bytes_then, choices, closing, field_at, fields_then, taken};
 ghost use Rattle.field_orders.specs.Sources.{AllMean, ArcSays, Grew, Makes, Means, RowSays, RowTo};
 
+use crate::numbered::Numbered;
 use crate::tables::Part;
-use state_table::{Key, StateSet, StateTable};
+use state_table::{Key, StateSet};
 use std::alloc::{AllocError, Global};
 use std::cmp::min;
 use weighted_relations::Arc;
 
-/// What is left to write. Two states that are equal have one number, so what is written in different orders meets again.
+/// What is left to write. What is written in different orders meets again in a state where fields are left.
 #[derive(PartialEq, Eq, Hash, Drop)]
 pub(crate) enum State {
     /// Nothing.
@@ -42,16 +43,16 @@ impl Key for State {
 }
 
 /// A byte before a state.
-fn put_byte(states: &mut StateTable<State>, code: u8, next: usize) -> Result<usize, AllocError>
+fn put_byte(states: &mut Numbered, code: u8, next: usize) -> Result<usize, AllocError>
     requires within { next < length states.old }
     ensures within { IfOk result (λ k. k < length states.new) }
     ensures made { IfOk result (λ k. (t : List Written) → Makes t states.old states.new next k (byte code)) }
 {
-    states.number(State::Byte { byte: code, next })
+    states.put(State::Byte { byte: code, next })
 }
 
 /// The end of a field before a state.
-fn put_close(states: &mut StateTable<State>, braced: bool, next: usize) -> Result<usize, AllocError>
+fn put_close(states: &mut Numbered, braced: bool, next: usize) -> Result<usize, AllocError>
     requires within { next < length states.old }
     ensures within { IfOk result (λ k. k < length states.new) }
     ensures made { IfOk result (λ k. (t : List Written) → Makes t states.old states.new next k (bytes_then (closing braced))) }
@@ -65,7 +66,8 @@ fn put_close(states: &mut StateTable<State>, braced: bool, next: usize) -> Resul
 
 /// Fields in some order before a state.
 fn put_fields(
-    states: &mut StateTable<State>,
+    alloc: Global,
+    states: &mut Numbered,
     left: Vec<usize>,
     next: usize,
 ) -> Result<usize, AllocError>
@@ -76,16 +78,13 @@ fn put_fields(
     if left.is_empty() {
         return Ok(next);
     }
-    states.number(State::Fields {
-        left: StateSet::new(left),
-        next,
-    })
+    states.meet(alloc, left, next)
 }
 
 /// What follows a field's text, where others are left at its level, before a state.
 fn put_behind(
     alloc: Global,
-    states: &mut StateTable<State>,
+    states: &mut Numbered,
     part: &Part,
     others: Vec<usize>,
     next: usize,
@@ -94,15 +93,15 @@ fn put_behind(
     ensures within { IfOk result (λ k. k < length states.new) }
     ensures made { IfOk result (λ k. (t : List Written) → All (λ i. i < length t) others.items → All (λ i. i < length t) part.now.inner → Makes t states.old states.new next k (behind part.now others.items)) }
 {
-    let after = put_fields(states, others, next)?;
+    let after = put_fields(alloc, states, others, next)?;
     let close = put_close(states, part.braced, after)?;
     let inner = Vec::from_slice(alloc, &part.inner)?;
-    put_fields(states, inner, close)
+    put_fields(alloc, states, inner, close)
 }
 
 /// A field's text from a place on before a state.
 fn put_text(
-    states: &mut StateTable<State>,
+    states: &mut Numbered,
     table: &[Part],
     field: usize,
     from: usize,
@@ -117,13 +116,13 @@ fn put_text(
     if part.text.len() <= from {
         return Ok(next);
     }
-    states.number(State::Text { field, from, next })
+    states.put(State::Text { field, from, next })
 }
 
 /// A record's text before a state.
 pub(crate) fn put_whole(
     alloc: Global,
-    states: &mut StateTable<State>,
+    states: &mut Numbered,
     table: &[Part],
     root: usize,
     next: usize,
@@ -135,14 +134,14 @@ pub(crate) fn put_whole(
 {
     let part = &table[root];
     let inner = Vec::from_slice(alloc, &part.inner)?;
-    let fields = put_fields(states, inner, next)?;
+    let fields = put_fields(alloc, states, inner, next)?;
     put_text(states, table, root, 0, fields)
 }
 
 /// The arcs of a state.
 pub(crate) fn row_of(
     alloc: Global,
-    states: &mut StateTable<State>,
+    states: &mut Numbered,
     table: &[Part],
     keep: bool,
     state: usize,
@@ -153,7 +152,7 @@ pub(crate) fn row_of(
     ensures grew { OnOk result (Grew table.now states.old states.new) }
     ensures row { IfOk result (λ row. (r : Rest) → Means table.now states.old state r → RowSays table.now keep states.new row.items r) }
 {
-    match states.key(state) {
+    match states.state(state) {
         State::End => Ok(Vec::new(alloc)),
         State::Byte { byte, next } => one_arc(alloc, *byte, *next),
         State::Text { field, from, next } => {
@@ -171,7 +170,7 @@ pub(crate) fn row_of(
 /// The arc of a byte of a field's text.
 fn text_row(
     alloc: Global,
-    states: &mut StateTable<State>,
+    states: &mut Numbered,
     table: &[Part],
     field: usize,
     from: usize,
@@ -192,7 +191,7 @@ fn text_row(
 /// The arcs of a state where fields are left.
 fn field_row(
     alloc: Global,
-    states: &mut StateTable<State>,
+    states: &mut Numbered,
     table: &[Part],
     keep: bool,
     left: &[usize],
@@ -215,7 +214,7 @@ fn field_row(
 /// The arc of a field that comes next.
 fn choice(
     alloc: Global,
-    states: &mut StateTable<State>,
+    states: &mut Numbered,
     table: &[Part],
     field: usize,
     others: Vec<usize>,
@@ -257,7 +256,7 @@ fn one_arc(alloc: Global, byte: u8, next: usize) -> Result<Vec<Arc>, AllocError>
     ensures row { IfOk result (λ row. row.items ≡ label_arc byte next ∷ []) }
     ensures small { byte ≤ 255 }
 {
-    let mut row = Vec::new(alloc);
+    let mut row = Vec::with_capacity(alloc, 1)?;
     row.push(byte_arc(byte, next))?;
     Ok(row)
 }

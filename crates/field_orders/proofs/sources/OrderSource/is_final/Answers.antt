@@ -8,5 +8,5 @@ pub returns-in_default : goal.returns-in_default
 returns-in_default c = record {
   last = λ r m.
       let s : c.self.inside.states ≡ c.args.self.now.states = ap (λ (z : Source). z.states) c.self.view_is in
-      not_final c.args.self.now.table c.args.self.now.states c.args.state c.key.result.now c.in_default.not-End (subst (λ z. slice_get z c.args.state ≡ Some c.key.result.now) s c.key.ensures.value) m;
+      not_final c.args.self.now.table c.args.self.now.states c.args.state c.state.result.now c.in_default.not-End (subst (λ z. slice_get z c.args.state ≡ Some c.state.result.now) s c.state.ensures.value) m;
 }

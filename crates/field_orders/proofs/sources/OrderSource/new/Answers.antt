@@ -11,8 +11,8 @@ pub returns-clause-source : goal.returns-clause-source
 returns-clause-source c =
     let text : c.push.new.self.items ≡ c.args.r.now.class ++ 124 ∷ [] = search rules in
     let b = begun c.args.r.now c.new-table.result.items c.number_fields.new.table.items c.add.new.table.items c.push.new.self.items c.in_ok-inner.inner.items c.in_ok-root.root c.requires.orderable c.new-table.ensures.items c.in_ok-inner.ensures.table (subst (λ z. NumbersOf c.number_fields.new.table.items c.in_ok-inner.inner.items (chain (map field_of z))) c.deref.ensures.value c.in_ok-inner.ensures.numbers) text c.in_ok-root.ensures.added in
-    source_begun c.add.new.table.items c.args.r.now.keep c.new-states.result c.number.new.self c.put_whole.new.states c.in_ok-end.end c.in_ok-start.start c.in_ok-root.root b.written c.new-states.ensures.value c.number.ensures.distinct c.in_ok-end.ensures.number
-    (subst (λ z. Makes z c.number.new.self c.put_whole.new.states c.in_ok-end.end c.in_ok-start.start (λ r. bytes_then (field_at z c.in_ok-root.root).text (fields_then (field_at z c.in_ok-root.root).inner r))) c.deref-2.ensures.value c.in_ok-start.ensures.made)
+    source_begun c.add.new.table.items c.args.r.now.keep c.new-states.result c.put.new.self c.put_whole.new.states c.in_ok-end.end c.in_ok-start.start c.in_ok-root.root b.written c.new-states.ensures.value c.in_ok-end.ensures.number
+    (subst (λ z. Makes z c.put.new.self c.put_whole.new.states c.in_ok-end.end c.in_ok-start.start (λ r. bytes_then (field_at z c.in_ok-root.root).text (fields_then (field_at z c.in_ok-root.root).inner r))) c.deref-2.ensures.value c.in_ok-start.ensures.made)
 
 pub returns-clause-readings : goal.returns-clause-readings
 returns-clause-readings c =
