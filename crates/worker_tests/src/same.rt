@@ -3,6 +3,7 @@
 use crate::runs::{copies, run};
 use sample_lines::toy_shelf;
 use speak_core::NoWatch;
+use std::str::from_utf8;
 use std::test::Fail;
 
 /// Eight workers share two places.
@@ -96,22 +97,47 @@ fn workers_change_nothing(rt: HostRuntime) -> Result<(), Fail> {
     Ok(())
 }
 
-/// Eight workers and a sweeper sum up the sample as one worker does.
+/// Eight workers and a sweeper sum up the sample as one worker does, and the sweeper comes by each place in each round.
 #[test]
 fn a_sample_is_summed_up_alike(rt: HostRuntime) -> Result<(), Fail> {
     let alloc = rt.alloc();
     let many = [
         "speak", "--mode", "sample", "--count", "300", "--places", "2", "--jobs", "8", "--sweep",
-        "10000",
+        "10000", "--report",
     ];
     let one = [
-        "speak", "--mode", "sample", "--count", "300", "--places", "2",
+        "speak", "--mode", "sample", "--count", "300", "--places", "2", "--report",
     ];
     let many = run(&rt, alloc, &many, toy_shelf(alloc)?, b"", &NoWatch)?;
     let one = run(&rt, alloc, &one, toy_shelf(alloc)?, b"", &NoWatch)?;
     assert!(rt; one.out.bytes().starts_with(b"lines 300\n"));
     assert_eq!(rt; many.out.bytes(), one.out.bytes());
-    assert_eq!(rt; many.err.bytes(), one.err.bytes());
     assert_eq!(rt; (one.status, many.status), (0, 0));
+    let last = last_line(many.err.bytes());
+    assert!(rt; last.starts_with("report sweep: done "));
+    assert_eq!(rt; sum_of_numbers(last.as_bytes()), 20_000);
+    assert!(rt; last_line(one.err.bytes()).starts_with("report total: lines 300 looks "));
     Ok(())
+}
+
+/// The last line of a text.
+fn last_line(text: &[u8]) -> &str {
+    from_utf8(text).unwrap_or("").lines().last().unwrap_or("")
+}
+
+/// The sum of the whole numbers that stand in a text.
+fn sum_of_numbers(text: &[u8]) -> u64 {
+    let mut sum = 0u64;
+    let mut number = 0u64;
+    for byte in text {
+        if byte.is_ascii_digit() {
+            number = number
+                .saturating_mul(10)
+                .saturating_add(u64::from(*byte & 15));
+        } else {
+            sum = sum.saturating_add(number);
+            number = 0;
+        }
+    }
+    sum.saturating_add(number)
 }
