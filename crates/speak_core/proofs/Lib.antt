@@ -1,5 +1,7 @@
 pub mod Said
 pub mod Tellings
+pub mod Whole
+pub mod Intaking
 pub mod SoFar
 pub mod Sums
 pub mod Named

@@ -14,3 +14,5 @@ pub mod Crews
 pub mod Loaded
 pub mod Works
 pub mod Told
+pub mod Given
+pub mod Intakes

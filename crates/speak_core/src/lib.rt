@@ -13,6 +13,7 @@
 mod batches;
 mod crews;
 mod gathering;
+mod intakes;
 mod loading;
 mod outside;
 mod reports;
