@@ -1,9 +1,11 @@
 -- Texts of whole lines, and how many lines and line feeds a text has.
-use Rattle.std.proofs.Common.{◌≡◌, ◌==◌, ◌<◌, ◌≤◌, ℕ, zero, suc, ◌+◌, List, [], ◌∷◌, ◌++◌, Bool, true, false, ◌&&◌, length, refl, sym, ap, ◌∙◌, append_assoc, length-append, arith, if◌then◌else◌}
+use Rattle.std.proofs.Common.{◌≡◌, ◌==◌, ◌<◌, ◌≤◌, ℕ, zero, suc, ◌+◌, List, [], ◌∷◌, ◌++◌, Bool, true, false, ◌&&◌, length, refl, sym, ap, ◌∙◌, append_assoc, append-nil, inl, inr, length-append, arith, if◌then◌else◌}
+use Rattle.std.proofs.lemmas.Bool.{cases_lt}
 use Rattle.text_lines.proofs.Cut.{HasNoLineFeed, lines-first}
 use Rattle.text_lines.specs.Lines.{begins_with_line_feed, lines, onto, without_return}
 use Rattle.speak_core.specs.Given.{first_lines}
 use Rattle.speak_core.specs.Intakes.{AreWhole, line_feeds}
+use Rattle.speak_core.specs.Parts.{Cuts}
 
 pub feeds_append : (a b : List ℕ) → line_feeds (a ++ b) ≡ line_feeds a + line_feeds b
 feeds_append [] b = omega arith
@@ -88,3 +90,19 @@ whole_line line none =
       number = ap length one;
       ends = feeds_append line (10 ∷ []) ∙ (omega (arith, none));
     }
+
+none_in : {X : Type 0} (l : List X) → length l ≤ 0 → l ≡ []
+none_in [] h = refl
+none_in (x ∷ l) h = absurd (omega (arith, h))
+
+-- a batch that is cut off a text of no more lines takes all of them
+pub cut_all : (text rest : List ℕ) (cut : List (List ℕ)) → Cuts 1024 text cut rest → length (lines text) ≤ 1024 → lines text ≡ cut
+cut_all text rest cut c few = elim (cases_lt (length cut) 1024) [
+  | inl less ↦ c.parts ∙ (ap (λ r. cut ++ lines r) (c.full less) ∙ append-nil cut)
+  | inr all ↦ c.parts ∙ (ap (λ l. cut ++ l) (none_in (lines rest) (let e = ap length c.parts ∙ length-append cut (lines rest) in omega (arith, e, few, all))) ∙ append-nil cut)
+]
+
+pub cut_none : (text rest : List ℕ) (cut : List (List ℕ)) → Cuts 1024 text cut rest → length cut ≡ 0 → lines text ≡ []
+cut_none text rest cut c none =
+    let empty : cut ≡ [] = none_in cut (omega (arith, none)) in
+    c.parts ∙ (ap (λ l. l ++ lines rest) empty ∙ ap lines (c.full (omega (arith, none))))

@@ -28,6 +28,7 @@ impl Report {
     /// A report of no lines.
     pub(crate) fn new(is_wanted: bool) -> Report
         ensures wanted { result.is_wanted ≡ is_wanted }
+        ensures lines { result.lines ≡ 0 }
         ensures total { result.total ≡ no_tally }
     {
         Report {

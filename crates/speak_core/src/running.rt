@@ -20,7 +20,7 @@ ghost use Rattle.speak_core.specs.Reports.{reporting_of};
 ghost use Rattle.speak_core.specs.Stops.{AllCounts, Counts, IsAccepted, IsDeviceStop, IsReadingStop, IsRefusalStop};
 ghost use Rattle.speak_core.specs.Works.{CanBeDone, WorkCounts, work_lines, work_reads, work_reports, work_says, work_text};
 
-use crate::outside::{put, read_all};
+use crate::outside::put;
 use crate::reports::Report;
 use crate::sampling::speak_sample;
 use crate::speakers::Loaded;
@@ -125,7 +125,6 @@ fn speak_input<R: Threads + Sync, S: Source, O: Sink, E: Sink, W: Watch + Sync>(
     ensures later { E.faults err.old ≤ E.faults err.new }
     ensures stops { IfErr result IsReadingStop }
 {
-    let input = read_all(alloc, source)?;
     let Loaded { speaker, mut crew } = loaded;
     let mut report = Report::new(crew.settings.report);
     let is_read = speak_lines(
@@ -135,7 +134,7 @@ fn speak_input<R: Threads + Sync, S: Source, O: Sink, E: Sink, W: Watch + Sync>(
         &mut report,
         &speaker,
         &mut crew,
-        &input,
+        source,
         out,
         err,
     )?;
