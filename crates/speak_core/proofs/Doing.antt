@@ -187,7 +187,11 @@ checked_writes w text report (Some input) bytes out out' err (Ok is_read) is sam
     subst (λ v. Writes (work_says v) (work_reports v report) (work_lines v input) (work_text v) out out' err err is_read) (sym is) (text_writes text.items out out' err is_read (h.0, subst (Appends out out') same h.1))
 checked_writes w text report (Some input) bytes out out' err (Err s) is same h = tt
 
--- what is known of an input that was read
-pub of_input : (left : Option (List ℕ)) (P : List ℕ → Type 0) (bytes : List ℕ) → IfSome left (λ input. bytes ≡ input) → P bytes → IfSome left P
-of_input None P bytes is h = tt
-of_input (Some input) P bytes is h = subst P is h
+-- what is known of an input that is told
+pub of_known : {X : Type 0} (known : Option X) (P Q : X → Type 0) → ((x : X) → P x → Q x) → IfSome known P → IfSome known Q
+of_known None P Q f h = tt
+of_known (Some x) P Q f h = f x h
+
+pub of_three : {X : Type 0} (known : Option X) (P Q R S : X → Type 0) → ((x : X) → P x → Q x → R x → S x) → IfSome known P → IfSome known Q → IfSome known R → IfSome known S
+of_three None P Q R S f h k l = tt
+of_three (Some x) P Q R S f h k l = f x h k l

@@ -1,12 +1,12 @@
 -- What was read of an input, as more of it is read and looked at.
-use Rattle.std.proofs.Common.{inl, inr, nat_lt, ◌≡◌, ◌==◌, ◌<◌, ◌≤◌, ◌^◌, ℕ, ◌+◌, ◌-◌, ◌*◌, List, [], ◌∷◌, ◌++◌, None, Some, Ok, Err, Result, Bool, true, false, IfSome, Option, Vec, Global, length, take, drop, get_or, refl, sym, ap, ◌∙◌, subst, append_assoc, append-nil, length-append, add-one, drop-cons, take-append-drop, length-take-le, arith}
-use Rattle.std.proofs.KnownBytes.{Consumes-kept, Consumes-trans}
+use Rattle.std.proofs.Common.{inl, inr, nat_lt, ◌≡◌, ◌<◌, ◌≤◌, ◌^◌, ℕ, ◌+◌, ◌*◌, List, [], ◌∷◌, ◌++◌, None, Some, false, Option, Vec, Global, length, take, drop, get_or, refl, sym, ap, ◌∙◌, subst, append_assoc, append-nil, length-append, add-one, drop-cons, take-append-drop, length-take-le, arith}
+use Rattle.std.proofs.KnownBytes.{Consumes-trans}
 use Rattle.std.proofs.Math.Seq.{drop-append_seam, take-append_seam, take-length}
 use Rattle.std.proofs.lemmas.Bool.{cases_lt, eqb-true, ltb-false}
 use Rattle.std.specs.Io.KnownBytes.{Consumes, Keeps}
 use Rattle.memchr.specs.Find.{IsFirstByte, is_byte}
 use Rattle.text_lines.proofs.Cut.{no-feed-before}
-use Rattle.speak_core.specs.Given.{GaveAtMost, first_lines}
+use Rattle.speak_core.specs.Given.{first_lines}
 use Rattle.speak_core.specs.Inputs.{GaveTooMuch, IfGaveTooMuch}
 use Rattle.speak_core.specs.Intakes.{AreWhole, GaveOnly, GaveWithin, Holds, IsIntake, line_feeds}
 use Rattle.speak_core.specs.declared.intakes.Intake.{Intake}

@@ -1,5 +1,6 @@
 -- From the plan that was found to what a run owes.
-use Rattle.std.proofs.Common.{◌≡◌, ℕ, List, None, Some, Ok, Err, Bool, true, Result, inr, IfSome, IfOk, IfErr, OnOk, ap, sym, ◌∙◌, subst, String, Global}
+use Rattle.std.proofs.Common.{◌≡◌, ℕ, List, None, Some, Ok, Err, Bool, true, Result, inr, IfSome, IfOk, IfErr, IsSomeAnd, OnOk, [], false, refl, ap, sym, ◌∙◌, subst, String, Global, arith}
+use Rattle.std.proofs.KnownBytes.{Appends-nil}
 use Rattle.std.specs.declared.option.Option.{Option}
 use Rattle.std.specs.Io.KnownBytes.{Appends, IsAtEnd}
 use Rattle.std.specs.Option.{option_map}
@@ -13,6 +14,7 @@ use Rattle.speak_core.specs.Accepted.{Accepted, Asks, IsOnly, JobAsks, OrText, R
 use Rattle.speak_core.specs.Answers.{AllSaid, Tells}
 use Rattle.speak_words.specs.declared.asked.Settings.{Settings}
 use Rattle.speak_core.specs.Reports.{Reporting, reporting_of}
+use Rattle.speak_core.specs.Given.{GivesBatches, GivesInput}
 use Rattle.speak_core.specs.Requests.{job_in, settings_in}
 use Rattle.speak_core.specs.Devices.{Observed}
 use Rattle.speak_core.specs.Loaded.{Planned, StopsAs}
@@ -21,12 +23,16 @@ use Rattle.speak_core.specs.Outputs.{lines_for, out_text, reads_input, reports_f
 use Rattle.speak_core.specs.Parts.{AppendsOne, AppendsSome, Writes}
 use Rattle.speak_core.specs.Plans.{Plan, saying_of}
 use Rattle.speak_core.specs.Stops.{AllCounts, IsReadingStop, IsRefusalStop}
-use Rattle.speak_core.specs.Works.{Does, WorkCounts, work_lines, work_reports, work_says, work_text}
+use Rattle.speak_core.specs.Works.{Does, WorkCounts, work_lines, work_reads, work_reports, work_says, work_text}
 use Rattle.speak_core.specs.declared.stop.Stop.{Stop}
 use Rattle.speak_core.specs.declared.stop.Stop.TheVariants as stop
 use Rattle.speak_core.specs.declared.works.Work.{Work}
 use Rattle.speak_core.proofs.Found.{stops_through}
 use Rattle.speak_core.proofs.Said.{some_none}
+
+some_and : {X : Type 0} (o : Option X) (P Q : X → Type 0) → ((x : X) → P x → Q x) → IsSomeAnd o P → IsSomeAnd o Q
+some_and None P Q f h = h
+some_and (Some x) P Q f h = f x h
 
 module _ (words : List (String Global)) (job : Job) (is_job : Some job ≡ job_in words) where
   same_job : (files : Files) (asked : OrText Plan) (s : Asks words files asked) → s.job ≡ job
@@ -116,6 +122,21 @@ module _ (words : List (String Global)) (job : Job) (is_job : Some job ≡ job_i
     run_speaks report wants known left d (Ok is_read) l h = all_spoken report wants known left d is_read l (written_of left (λ input. Writes (work_says w) (work_reports w report) (work_lines w input) (work_text w) d.before.out.held d.after.out.held d.before.err.held d.after.err.held) is_read h)
     run_speaks report wants known left d (Err s) l h = tt
 
+    -- what was given of an input that the work reads, or doesn't
+    pub run_gives : (out out' : Option (List ℕ)) (known : Option Files) (left left' : Option (List ℕ)) → work_reads w ≡ reads_input job → IfSome known (λ files. Planned (Does job) (JobAsks files job) w)
+        → (work_reads w ≡ true → IfSome left (λ input. IsSomeAnd left' (λ now. (answers : List Answer) → AllSaid (work_says w) (work_lines w input) answers → GivesBatches answers input now out out'))) → (work_reads w ≡ false → left' ≡ left)
+        → IfSome known (λ files. IfSome left (λ input. IsSomeAnd left' (GivesInput words out out' files input)))
+    run_gives out out' None left left' same l h kept = tt
+    run_gives out out' (Some files) None left' same l h kept = tt
+    run_gives out out' (Some files) (Some input) left' same l h kept = go (work_reads w) refl
+      where
+        go : (b : Bool) → work_reads w ≡ b → IsSomeAnd left' (GivesInput words out out' files input)
+        go true reads = some_and left' _ _ (λ now f. record { nothing = λ none. absurd (none l.plan (accepted files l)); batches = λ plan a is answers said. f answers (by_its_work files l input plan answers a said) }) (h reads)
+        go false reads = subst (λ o. IsSomeAnd o (GivesInput words out out' files input)) (sym (kept reads)) (record {
+          nothing = λ none. refl;
+          batches = λ plan a is answers said. absurd (let both : true ≡ false = sym is ∙ (ap reads_input (same_job files (Ok plan) a) ∙ (sym same ∙ reads)) in cc);
+        })
+
     -- words and files that are accepted aren't refused
     pub run_accepts : (known : Option Files) → IfSome known (λ files. Planned (Does job) (JobAsks files job) w) → IfSome known (λ files. (text : List ℕ) → Refused words files text → ⊥)
     run_accepts None l = tt
@@ -182,6 +203,15 @@ pub tells_nothing : (words : List (String Global)) (known : Option Files) (left 
 tells_nothing words None left old = tt
 tells_nothing words (Some files) None old = tt
 tells_nothing words (Some files) (Some input) old = λ output spoke owed. some_none spoke.report spoke.lines spoke.answers old
+
+-- nothing was given
+pub gives_nothing : (words : List (String Global)) (known : Option Files) (left old : Option (List ℕ)) → IfSome known (λ files. IfSome left (λ input. IsSomeAnd left (GivesInput words old old files input)))
+gives_nothing words None left old = tt
+gives_nothing words (Some files) None old = tt
+gives_nothing words (Some files) (Some input) old = record {
+  nothing = λ none. refl;
+  batches = λ plan a reads answers said. record { batches = 0; whole = omega arith; words = record { more = []; grown = Appends-nil old }; bound = omega arith };
+}
 
 -- so a fault of what is refused is none of the lines'
 pub not_refused : (words : List (String Global)) (known : Option Files) (P : Type 0) → IfSome known (λ files. (text : List ℕ) → Refused words files text → ⊥) → IfSome known (λ files. (text : List ℕ) → Refused words files text → P)

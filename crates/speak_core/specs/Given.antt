@@ -1,5 +1,5 @@
 -- How much of its input a source gave, by what was written until then.
-use Rattle.std.specs.Prelude.{◌≡◌, ◌==◌, ◌≤◌, ℕ, suc, zero, ◌+◌, ◌*◌, List, [], ◌∷◌, ◌++◌, Option, IfSome, IsSomeAnd, String, length, take, true, if◌then◌else◌}
+use Rattle.std.specs.Prelude.{◌≡◌, ◌==◌, ◌≤◌, ℕ, suc, zero, ◌+◌, ◌*◌, List, [], ◌∷◌, ◌++◌, Option, IsSomeAnd, String, length, take, true, if◌then◌else◌}
 use Rattle.std.specs.Io.KnownBytes.{Appends}
 use Rattle.std.specs.declared.alloc.Global.{Global}
 use Rattle.norm_base.specs.Files.{Files}
@@ -34,11 +34,11 @@ pub record GivesBatches (answers : List Answer) (input left : List ℕ) (out out
   pub bound : GaveAtMost (length (first_lines (1024 * (batches + 1)) input) + 65536) input left
 
 -- Where words and files ask for nothing that is done, nothing was given.
-pub record GivesInput (words : List (String Global)) (d : Observed) (files : Files) (input left : List ℕ) : Type 0 where
+pub record GivesInput (words : List (String Global)) (out out' : Option (List ℕ)) (files : Files) (input left : List ℕ) : Type 0 where
   pub nothing : AskForNone words files → left ≡ input
   pub batches : (plan : Plan) (accepted : Accepted words files plan) → reads_input accepted.job ≡ true → (answers : List Answer) → AllSaid (saying_of plan) (lines_for accepted.job input) answers
-      → GivesBatches answers input left d.before.out.held d.after.out.held
+      → GivesBatches answers input left out out'
 
 -- so it is of the files and the input, where both were told
 abbrev pub Gives : List (String Global) → Observed → Type 0
-Gives words d = OfInput d.before.shelf.files d.before.source.left (λ files input. IsSomeAnd d.after.source.left (GivesInput words d files input))
+Gives words d = OfInput d.before.shelf.files d.before.source.left (λ files input. IsSomeAnd d.after.source.left (GivesInput words d.before.out.held d.after.out.held files input))

@@ -1,6 +1,6 @@
 // A run of the command.
 
-ghost use Rattle.std.specs.Prelude.{◌≡◌, ◌⊎◌, ◌≤◌, IfErr, IfOk, IfSome, IsErrOf, OnOk, None, List, ℕ, String, true, false};
+ghost use Rattle.std.specs.Prelude.{◌≡◌, ◌⊎◌, ◌≤◌, IfErr, IfOk, IfSome, IsErrOf, IsSomeAnd, OnOk, None, List, ℕ, String, true, false};
 ghost use Rattle.std.specs.Result.{IsErrAnd};
 ghost use Rattle.std.specs.Io.KnownBytes.{Appends, IsAtEnd};
 ghost use Rattle.norm_base.specs.Bytes.{AppendsPrefix};
@@ -11,6 +11,7 @@ ghost use Rattle.speak_core.specs.Accepted.{Asks, Refused};
 ghost use Rattle.speak_core.specs.Answers.{AllSaid, Tells, written};
 ghost use Rattle.speak_core.specs.Requests.{job_in};
 ghost use Rattle.speak_core.specs.Devices.{seen};
+ghost use Rattle.speak_core.specs.Given.{Gives, GivesBatches};
 ghost use Rattle.speak_core.specs.Inputs.{GaveTooMuch, IfGaveTooMuch};
 ghost use Rattle.speak_core.specs.Loaded.{IsLoadedBy, StopsAs};
 ghost use Rattle.speak_core.specs.Outputs.{reads_input};
@@ -58,6 +59,8 @@ pub(crate) fn run<R: Threads + Sync, H: Shelf, S: Source, O: Sink, E: Sink, W: W
     ensures kept { IfSome (job_in words.now) (λ job. reads_input job ≡ false → S.left source.new ≡ S.left source.old) }
     ensures words_front { OfOwed words.now (H.files shelf.old) (S.left source.old) (λ output spoke. AppendsPrefix (O.held out.old) (O.held out.new) output) }
     ensures faults_front { OfOwed words.now (H.files shelf.old) (S.left source.old) (λ output spoke. AppendsSome (Told spoke) (E.held err.old) (E.held err.new)) }
+    ensures given { let devices = seen H.Shelf S.Source O.Sink E.Sink shelf.old source.old out.old err.old shelf.new source.new out.new err.new in
+        Gives words.now devices }
     ensures silent_out { IsErrAnd result IsRefusalStop → O.held out.new ≡ O.held out.old }
     ensures silent_err { IsErrAnd result IsRefusalStop → E.held err.new ≡ E.held err.old }
     ensures unread { IsErrAnd result IsRefusalStop → S.left source.new ≡ S.left source.old }
@@ -89,6 +92,7 @@ fn do_work<R: Threads + Sync, S: Source, O: Sink, E: Sink, W: Watch + Sync>(
     ensures done { IfSome (S.left source.old) (λ input. IfOk result (Writes (work_says work) (work_reports work (reporting_of settings)) (work_lines work input) (work_text work) (O.held out.old) (O.held out.new) (E.held err.old) (E.held err.new))) }
     ensures out_front { IfSome (S.left source.old) (λ input. (answers : List Answer) → AllSaid (work_says work) (work_lines work input) answers → AppendsPrefix (O.held out.old) (O.held out.new) (work_text work answers)) }
     ensures err_front { IfSome (S.left source.old) (λ input. (answers : List Answer) → AllSaid (work_says work) (work_lines work input) answers → AppendsSome (Tells (work_reports work (reporting_of settings)) (work_lines work input) answers) (E.held err.old) (E.held err.new)) }
+    ensures given { work_reads work ≡ true → IfSome (S.left source.old) (λ input. IsSomeAnd (S.left source.new) (λ left. (answers : List Answer) → AllSaid (work_says work) (work_lines work input) answers → GivesBatches answers input left (O.held out.old) (O.held out.new))) }
     ensures end { work_reads work ≡ true → OnOk result (IsAtEnd (S.left source.new)) }
     ensures kept { work_reads work ≡ false → S.left source.new ≡ S.left source.old }
     ensures too_long { IsErrOf result Stop.TooLong → GaveTooMuch (S.left source.old) (S.left source.new) }
@@ -118,6 +122,7 @@ fn speak_input<R: Threads + Sync, S: Source, O: Sink, E: Sink, W: Watch + Sync>(
     ensures done { IfSome (S.left source.old) (λ input. IfOk result (Writes (says_of loaded.speaker) (reporting_of loaded.crew.settings) (lines input) written (O.held out.old) (O.held out.new) (E.held err.old) (E.held err.new))) }
     ensures out_front { IfSome (S.left source.old) (λ input. (answers : List Answer) → AllSaid (says_of loaded.speaker) (lines input) answers → AppendsPrefix (O.held out.old) (O.held out.new) (written answers)) }
     ensures err_front { IfSome (S.left source.old) (λ input. (answers : List Answer) → AllSaid (says_of loaded.speaker) (lines input) answers → AppendsSome (Tells (reporting_of loaded.crew.settings) (lines input) answers) (E.held err.old) (E.held err.new)) }
+    ensures given { IfSome (S.left source.old) (λ input. IsSomeAnd (S.left source.new) (λ left. (answers : List Answer) → AllSaid (says_of loaded.speaker) (lines input) answers → GivesBatches answers input left (O.held out.old) (O.held out.new))) }
     ensures end { OnOk result (IsAtEnd (S.left source.new)) }
     ensures too_long { IsErrOf result Stop.TooLong → GaveTooMuch (S.left source.old) (S.left source.new) }
     ensures only_too_long { IfGaveTooMuch (S.left source.old) (S.left source.new) (IsErrOf result Stop.TooLong) }

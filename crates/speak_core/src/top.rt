@@ -7,6 +7,7 @@ ghost use Rattle.norm_base.specs.Counts.{Rose};
 ghost use Rattle.speak_core.specs.Accepted.{Accepted, IsRefusal, Refused};
 ghost use Rattle.speak_core.specs.Requests.{job_in};
 ghost use Rattle.speak_core.specs.Devices.{NoneRose, OfInput, SomeRose, seen, sink_seen};
+ghost use Rattle.speak_core.specs.Given.{Gives};
 ghost use Rattle.speak_core.specs.Inputs.{GaveTooMuch, IfGaveTooMuch};
 ghost use Rattle.speak_core.specs.Owed.{OfOwed, SpeaksAll, spoke_nothing};
 ghost use Rattle.speak_core.specs.Outputs.{reads_input};
@@ -95,6 +96,10 @@ pub fn speak<R: Threads + Sync, H: Shelf, S: Source, O: Sink, E: Sink, W: Watch 
     ensures unread { (result ≡ 2) ⊎ (result ≡ 3) → S.left source.new ≡ S.left source.old }
     ensures kept { IfSome (job_in words.now) (λ job. reads_input job ≡ false → S.left source.new ≡ S.left source.old) }
     ensures files { H.files shelf.new ≡ H.files shelf.old }
+
+    // No more of the input was given than the batches whose words were written, one batch more, and a read.
+    ensures given { let devices = seen H.Shelf S.Source O.Sink E.Sink shelf.old source.old out.old err.old shelf.new source.new out.new err.new in
+        Gives words.now devices }
 {
     finish(run(rt, alloc, watch, words, shelf, source, out, err), err)
 }

@@ -120,6 +120,6 @@ loop-intake-preserved g c =
       c.speak_text.ensures.settings ∙ c.loop-intake.invariant.2,
       c.in_ok-text.ensures.is,
       so_far_more (says_of c.args.speaker.now) _ _ _ _ _ _ _ _ _ _ _ _ _ _ _ _ _ _ c.loop-intake.invariant.4 (g.S.Source.left c.fill.new.source) c.fill.new.self (c.in_ok-is_full.ensures.holds (g.S.Source.left c.args.source.now) c.loop-intake.invariant.4.handled c.loop-intake.invariant.4.holds) (c.fill.ensures.within (g.S.Source.left c.args.source.now) c.loop-intake.invariant.4.handled c.loop-intake.invariant.4.batches c.loop-intake.invariant.4.holds c.loop-intake.invariant.4.whole.ends c.loop-intake.invariant.4.within) c.in_ok-text.text.items c.take_text.new.self.bytes.items c.in_ok-text.ensures.parts
-    _ c.in_ok-now_read.now_read c.if-is_read.is_read _ _ _ _ (rw (c.deref.ensures.value, c.loop-intake.invariant.1) at c.in_ok-now_read.ensures.done) both c.in_ok-now_read.ensures.counts c.speak_text.new.crew.swept (rw (c.deref.ensures.value, c.loop-intake.invariant.2) at c.in_ok-now_read.ensures.swept) c.speak_text.new.report.lines (rw c.deref.ensures.value at c.in_ok-now_read.ensures.count) c.take_text.new.self refl c.in_ok-text.ensures.given (subst (λ n. AreWhole n c.in_ok-text.text.items) (c.in_ok-is_full.ensures.full c.if-not-is_full.false) (c.in_ok-text.ensures.whole c.if-not-is_full.false)),
+          _ c.in_ok-now_read.now_read c.if-is_read.is_read _ _ _ _ (rw (c.deref.ensures.value, c.loop-intake.invariant.1) at c.in_ok-now_read.ensures.done) both c.in_ok-now_read.ensures.counts c.speak_text.new.crew.swept (rw (c.deref.ensures.value, c.loop-intake.invariant.2) at c.in_ok-now_read.ensures.swept) c.speak_text.new.report.lines (rw c.deref.ensures.value at c.in_ok-now_read.ensures.count) c.take_text.new.self refl c.in_ok-text.ensures.given (subst (λ n. AreWhole n c.in_ok-text.text.items) (c.in_ok-is_full.ensures.full c.if-not-is_full.false) (c.in_ok-text.ensures.whole c.if-not-is_full.false)),
       c.in_ok-is_full.ensures.counts ∙ c.loop-intake.invariant.5,
     )

@@ -1,10 +1,10 @@
-use Rattle.std.proofs.Common.{◌≡◌, ◌∙◌, ◌*◌, ◌+◌, List, ℕ, [], true, length, rules, arith, subst, sym, ap}
+use Rattle.std.proofs.Common.{◌≡◌, ◌+◌, true, length, rules, arith, subst, sym}
 use Rattle.std.proofs.lemmas.Grind.{common_steps}
 use Rattle.std.proofs.lemmas.List.{length-map}
 use Rattle.norm_base.proofs.Front.{prefix_none}
 use Rattle.speak_core.specs.Parts.{Speaks, lines_of, says_of}
 use Rattle.speak_core.proofs.Said.{speaks_none, tells_none}
-use Rattle.speak_core.proofs.Whole.{cut_all, cut_none}
+use Rattle.speak_core.proofs.Whole.{cut_none}
 use Rattle.speak_core.proofs.speaking.speak_text.Goals as goal
 
 pub returns-in_err-batch-clause-out_front : goal.returns-in_err-batch-clause-out_front

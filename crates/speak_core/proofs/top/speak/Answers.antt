@@ -107,3 +107,6 @@ returns-clause-files g c = c.run.ensures.files
 
 pub returns-clause-kept : goal.returns-clause-kept
 returns-clause-kept g c = c.run.ensures.kept
+
+pub returns-clause-given : goal.returns-clause-given
+returns-clause-given g c = c.run.ensures.given

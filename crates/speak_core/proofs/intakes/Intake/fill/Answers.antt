@@ -1,11 +1,9 @@
-use Rattle.std.proofs.Common.{◌≡◌, ◌∙◌, ◌<◌, ◌≢◌, ℕ, List, Option, refl, rules, arith, subst, sym}
+use Rattle.std.proofs.Common.{◌≡◌, ◌∙◌, rules, arith, subst, sym}
 use Rattle.std.proofs.lemmas.Grind.{common_steps}
 use Rattle.std.specs.Result.{IsErrOf}
 use Rattle.speak_core.specs.Inputs.{IfGaveTooMuch}
-use Rattle.speak_core.specs.Intakes.{Holds}
 use Rattle.speak_core.specs.declared.stop.Stop.TheVariants as stop
 use Rattle.speak_core.proofs.Intaking.{holds_limit, holds_same, holds_within}
-use Rattle.speak_core.proofs.intakes.Intake.fill.Given as given
 use Rattle.speak_core.proofs.intakes.Intake.fill.Goals as goal
 
 pub returns-then-self-eq-MOST_LINES-clause-only_too_long : goal.returns-then-self-eq-MOST_LINES-clause-only_too_long
@@ -48,9 +46,9 @@ loop-self-preserved g c = (
   c.in_ok-is_more.ensures.is,
   λ start handled h. c.in_ok-is_more.ensures.holds start handled (holds_same start (g.S.Source.left c.loop-self.source) handled c.loop-self.self (c.loop-self.invariant.1 start handled h) c.find_ends.new.self c.find_ends.ensures.bytes c.find_ends.ensures.given),
   λ start handled batches h whole before.
-    holds_within start (g.S.Source.left c.loop-self.source) handled c.find_ends.new.self
-    (holds_same start (g.S.Source.left c.loop-self.source) handled c.loop-self.self (c.loop-self.invariant.1 start handled h) c.find_ends.new.self c.find_ends.ensures.bytes c.find_ends.ensures.given) (g.S.Source.left c.read_more.new.source) batches c.find_ends.new.self.lines whole
-    c.find_ends.ensures.all c.find_ends.ensures.is.few c.if-self-eq-MOST_LINES.false c.read_more.ensures.once,
+      holds_within start (g.S.Source.left c.loop-self.source) handled c.find_ends.new.self
+      (holds_same start (g.S.Source.left c.loop-self.source) handled c.loop-self.self (c.loop-self.invariant.1 start handled h) c.find_ends.new.self c.find_ends.ensures.bytes c.find_ends.ensures.given) (g.S.Source.left c.read_more.new.source) batches c.find_ends.new.self.lines whole
+      c.find_ends.ensures.all c.find_ends.ensures.is.few c.if-self-eq-MOST_LINES.false c.read_more.ensures.once,
   c.in_ok-is_more.ensures.counts ∙ c.loop-self.invariant.3,
   c.read_more.ensures.piece ∙ c.loop-self.invariant.4,
 )

@@ -7,7 +7,7 @@ invariant-loop-self g l =
     IsIntake l.self
     × ((start : Option (List ℕ)) (handled : List ℕ) → Holds start (g.S.Source.left l.initial.source) handled l.initial.self → Holds start (g.S.Source.left l.source) handled l.self)
     × ((start : Option (List ℕ)) (handled : List ℕ) (batches : ℕ) → Holds start (g.S.Source.left l.initial.source) handled l.initial.self → line_feeds handled ≡ 1024 * batches
-        → GaveWithin (1024 * (batches + 1)) start (g.S.Source.left l.initial.source) → GaveWithin (1024 * (batches + 1)) start (g.S.Source.left l.source))
+    → GaveWithin (1024 * (batches + 1)) start (g.S.Source.left l.initial.source) → GaveWithin (1024 * (batches + 1)) start (g.S.Source.left l.source))
     × (g.S.Source.faults l.source ≡ g.S.Source.faults l.initial.source)
     × (length l.piece ≡ 65536)
 

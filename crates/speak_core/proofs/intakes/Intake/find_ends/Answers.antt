@@ -1,4 +1,4 @@
-use Rattle.std.proofs.Common.{◌≡◌, ◌∙◌, drop, ap, length, refl, sym}
+use Rattle.std.proofs.Common.{◌∙◌, drop, ap, length, refl, sym}
 use Rattle.std.proofs.lemmas.List.{take_rest}
 use Rattle.speak_core.proofs.Intaking.{found_line, no_line}
 use Rattle.speak_core.proofs.intakes.Intake.find_ends.Goals as goal

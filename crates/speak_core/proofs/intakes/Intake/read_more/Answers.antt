@@ -1,4 +1,4 @@
-use Rattle.std.proofs.Common.{◌≡◌, ◌∙◌, ◌++◌, ap, append-nil, take, refl, arith}
+use Rattle.std.proofs.Common.{◌∙◌, ◌++◌, ap, append-nil, take, refl, arith}
 use Rattle.speak_core.proofs.Intaking.{gave_read, holds_more, intake_more, none_more, within_more}
 use Rattle.speak_core.proofs.intakes.Intake.read_more.Goals as goal
 

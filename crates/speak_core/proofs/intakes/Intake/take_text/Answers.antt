@@ -1,4 +1,4 @@
-use Rattle.std.proofs.Common.{◌≡◌, ◌≤◌, ◌-◌, ◌∙◌, Vec, Global, ℕ, ap, drop, length, length-drop, refl, arith}
+use Rattle.std.proofs.Common.{◌∙◌, Vec, Global, ℕ, ap, length, length-drop, refl, arith}
 use Rattle.speak_core.proofs.Intaking.{intake_anew}
 use Rattle.speak_core.proofs.intakes.Intake.take_text.Goals as goal
 
