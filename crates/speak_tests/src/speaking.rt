@@ -23,7 +23,7 @@ struct Left {
     err: MemSink,
 }
 
-fn words(alloc: Global, all: &[&str]) -> Result<Vec<String>, AllocError> {
+pub(crate) fn words(alloc: Global, all: &[&str]) -> Result<Vec<String>, AllocError> {
     let mut words = Vec::new(alloc);
     for word in all {
         words.push(String::from_str(alloc, *word)?)?;
@@ -31,7 +31,10 @@ fn words(alloc: Global, all: &[&str]) -> Result<Vec<String>, AllocError> {
     Ok(words)
 }
 
-fn files_of(alloc: Global, files: &[(&str, &[u8])]) -> Result<Vec<(Name, Vec<u8>)>, AllocError> {
+pub(crate) fn files_of(
+    alloc: Global,
+    files: &[(&str, &[u8])],
+) -> Result<Vec<(Name, Vec<u8>)>, AllocError> {
     let mut all = Vec::new(alloc);
     for (name, bytes) in files {
         all.push((
@@ -843,7 +846,7 @@ fn the_first_fault_of_a_line_is_told(rt: HostRuntime) -> Result<(), Fail> {
 }
 
 // Words, the calls of the shelf, the source, the output and the errors that fail, the output, the errors, the status.
-const RUNS: [(&[&str], [&[u64]; 4], &[u8], &[u8], u8); 29] = [
+const RUNS: [(&[&str], [&[u64]; 4], &[u8], &[u8], u8); 30] = [
     (&[], [&[]; 4], b"", b"bad arguments\n", 2),
     (&["speak"], [&[]; 4], b"", b"bad arguments\n", 2),
     (
@@ -936,6 +939,7 @@ const RUNS: [(&[&str], [&[u64]; 4], &[u8], &[u8], u8); 29] = [
     (&CLASSIFY, [&[1], &[], &[], &[]], b"", b"outside fault\n", 4),
     (&CLASSIFY, [&[2], &[], &[], &[]], b"", b"outside fault\n", 4),
     (&CLASSIFY, [&[], &[1], &[], &[]], b"", b"outside fault\n", 4),
+    (&CLASSIFY, [&[], &[2], &[], &[]], b"", b"outside fault\n", 4),
     (&CLASSIFY, [&[], &[3], &[], &[]], b"", b"outside fault\n", 4),
     (
         &CLASSIFY,
@@ -1099,13 +1103,13 @@ fn tokens_are_spoken(rt: HostRuntime) -> Result<(), Fail> {
     Ok(())
 }
 
-const TOY_SETUP: &[u8] =
+pub(crate) const TOY_SETUP: &[u8] =
     b"tokenizer_grammar: \"toy_classify.grm\"\ntokenizer_rule: \"MAIN\"\nverbalizer_grammar: \"toy_verbalize.grm\"\nverbalizer_rule: \"WORDS\"\n";
 
-const TOY_CLASSIFY: &[u8] =
+pub(crate) const TOY_CLASSIFY: &[u8] =
     b"nonzero = \"1\" | \"2\" | \"3\" | \"4\" | \"5\" | \"6\" | \"7\" | \"8\" | \"9\";\ndigit = \"0\" | nonzero;\nletter = \"a\" | \"b\" | \"c\" | \"d\" | \"e\" | \"f\" | \"g\" | \"h\" | \"i\" | \"j\" | \"k\" | \"l\" | \"m\"\n       | \"n\" | \"o\" | \"p\" | \"q\" | \"r\" | \"s\" | \"t\" | \"u\" | \"v\" | \"w\" | \"x\" | \"y\" | \"z\";\nmonth = \"january\" | \"february\" | \"march\" | \"april\" | \"may\" | \"june\" | \"july\"\n      | \"august\" | \"september\" | \"october\" | \"november\" | \"december\";\nnumber = digit | (nonzero digit);\nday = nonzero | ((\"1\" | \"2\") digit) | \"30\" | \"31\";\nname = (\"\" : \"tokens { name: \\\"\") (letter+) (\"\" : \"\\\" }\");\ncardinal = (\"\" : \"tokens { cardinal { integer: \\\"\") number (\"\" : \"\\\" } }\");\ndate = (\"\" : \"tokens { date { day: \\\"\") day (\" \" : \"\\\" month: \\\"\") month (\"\" : \"\\\" } }\");\nstop = \".\" : \"tokens { name: \\\".\\\" type: PUNCT }\";\nitem = (name | cardinal | date | stop) <1>;\nexport MAIN = item (\" \" item)*;\n";
 
-const TOY_VERBALIZE: &[u8] =
+pub(crate) const TOY_VERBALIZE: &[u8] =
     b"unit = (\"1\" : \"one\") | (\"2\" : \"two\") | (\"3\" : \"three\") | (\"4\" : \"four\") | (\"5\" : \"five\")\n     | (\"6\" : \"six\") | (\"7\" : \"seven\") | (\"8\" : \"eight\") | (\"9\" : \"nine\");\nteen = (\"10\" : \"ten\") | (\"11\" : \"eleven\") | (\"12\" : \"twelve\") | (\"13\" : \"thirteen\")\n     | (\"14\" : \"fourteen\") | (\"15\" : \"fifteen\") | (\"16\" : \"sixteen\")\n     | (\"17\" : \"seventeen\") | (\"18\" : \"eighteen\") | (\"19\" : \"nineteen\");\nten = (\"2\" : \"twenty\") | (\"3\" : \"thirty\") | (\"4\" : \"forty\") | (\"5\" : \"fifty\")\n    | (\"6\" : \"sixty\") | (\"7\" : \"seventy\") | (\"8\" : \"eighty\") | (\"9\" : \"ninety\");\nnumber = (\"0\" : \"zero\") | unit | teen | (ten (\"0\" : \"\")) | (ten (\"\" : \" \") unit);\nnth = (\"1\" : \"first\") | (\"2\" : \"second\") | (\"3\" : \"third\") | (\"4\" : \"fourth\")\n    | (\"5\" : \"fifth\") | (\"6\" : \"sixth\") | (\"7\" : \"seventh\") | (\"8\" : \"eighth\")\n    | (\"9\" : \"ninth\");\nday = nth | (\"10\" : \"tenth\") | (\"11\" : \"eleventh\") | (\"12\" : \"twelfth\")\n    | (\"13\" : \"thirteenth\") | (\"14\" : \"fourteenth\") | (\"15\" : \"fifteenth\")\n    | (\"16\" : \"sixteenth\") | (\"17\" : \"seventeenth\") | (\"18\" : \"eighteenth\")\n    | (\"19\" : \"nineteenth\") | (\"20\" : \"twentieth\") | ((\"2\" : \"twenty \") nth)\n    | (\"30\" : \"thirtieth\") | (\"31\" : \"thirty first\");\nmonth = \"january\" | \"february\" | \"march\" | \"april\" | \"may\" | \"june\" | \"july\"\n      | \"august\" | \"september\" | \"october\" | \"november\" | \"december\";\ncardinal = (\"cardinal|integer:\" : \"\") number (\"|\" : \"\");\ndate = (\"date|month:\" : \"\") month (\"|day:\" : \" \") day (\"|\" : \"\");\nexport WORDS = cardinal | date;\n";
 
 // The grammar of the example `toy`: names, numbers, dates and stops.
