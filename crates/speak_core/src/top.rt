@@ -28,7 +28,7 @@ use std::thread::Threads;
 ///
 /// The words are read by `speak_words`. In modes speak, classify and check the tokeniser's grammar is linked with all that it imports, and
 /// its rules, one to `speak_setup::MOST_RULES`, are looked up; but in mode classify the verbaliser's after them. Then the rules are built. In
-/// modes speak and classify the whole input is read after that, of at most 268,435,456 bytes. Mode check reads nothing of the source, and mode
+/// modes speak and classify the input is read after that, of at most 268,435,456 bytes. Mode check reads nothing of the source, and mode
 /// sample touches neither the shelf nor the source: it has files and lines of its own.
 ///
 /// In mode classify `out` gets for each line the output of its least reading through all rules of the tokeniser, one after another, and a
@@ -43,8 +43,10 @@ use std::thread::Threads;
 /// Status 0: each line was read, or the rules were checked. 1: some line is refused. 2: the words are wrong. 3: the setup, a grammar or a rule is
 /// refused. 4: a device failed, in place of 3 the shelf. 5: memory is wanting. 6: the input is too long. From 2 on, the cause is told to `err` last.
 ///
-/// Lines are handled in batches of 1,024, side by side by so many workers, from 1, as the words say: a line by the worker whose number less one is
-/// what the line's number less one leaves over. The watch is told before and after each line, by its worker.
+/// Lines are handled in batches of 1,024. The source is asked for at most 65,536 bytes at a time, and for none while the whole lines of a batch are
+/// there; a line without its end is kept until that comes. A batch's words are written before more is read. Its lines are spoken side by side by so
+/// many workers, from 1, as the words say: a line by the worker whose number less one is what the line's number less one leaves over. The watch is
+/// told before and after each line, by its worker.
 pub fn speak<R: Threads + Sync, H: Shelf, S: Source, O: Sink, E: Sink, W: Watch + Sync>(
     rt: &R,
     alloc: Global,
