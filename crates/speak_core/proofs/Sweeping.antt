@@ -1,7 +1,6 @@
 -- How many places a sweep comes by.
-use Rattle.std.proofs.Common.{◌≡◌, ◌==◌, ◌≤◌, ◌<◌, ℕ, zero, suc, ◌+◌, ◌*◌, ◌/◌, ◌^◌, List, [], ◌∷◌, ◌++◌, cond, Bool, true, false, length, nat_eq, refl, sym, ap, ◌∙◌, inl, inr, arith}
+use Rattle.std.proofs.Common.{◌≡◌, ◌≤◌, ◌<◌, ℕ, zero, suc, ◌+◌, ◌*◌, ◌/◌, ◌^◌, List, [], ◌∷◌, ◌++◌, cond, Bool, true, false, length, nat_eq, refl, sym, ap, ◌∙◌, arith}
 use Rattle.std.proofs.Math.Nat.{mul-le-mul}
-use Rattle.std.proofs.lemmas.Bool.{cases_lt}
 use Rattle.place_words.specs.declared.layout.TheConstants.{STATE}
 use Rattle.place_words.specs.declared.view.Entry.{Entry}
 use Rattle.place_words.specs.declared.view.Entry.TheVariants.{Knock, Leave, Read, TakeEmpty, TakeShown, Write, Show, Empty}
@@ -12,7 +11,6 @@ use Rattle.shared_cascade.specs.declared.sweeping.Swept.{Swept}
 use Rattle.speak_words.specs.Asked.{AreInBounds}
 use Rattle.speak_words.specs.declared.asked.Settings.{Settings}
 use Rattle.speak_core.specs.Crews.{HasSwept, SweptOn}
-use Rattle.speak_core.specs.Parts.{Cuts}
 use Rattle.speak_core.specs.Reports.{batches_of, swept_sum}
 
 abbrev found_in : List Entry → ℕ
@@ -99,14 +97,3 @@ module _ (s : Settings) (count left : ℕ) (w : Swept) (so_far : SweptSoFar s co
 -- at the end all is counted
 pub swept_all : (s : Settings) (count left : ℕ) (w : Swept) → SweptSoFar s count left w → left ≡ 0 → HasSwept s count w
 swept_all s count left w so_far end = so_far.found ∙ ap (λ n. s.places * s.sweep * n) (so_far.last end)
-
-pub some_left : (n : ℕ) → false ≡ (n == 0) → 0 < n
-some_left zero none = cc
-some_left (suc n) some = omega arith
-
--- a batch after which something is left is full
-pub full_batch : (text rest : List ℕ) (cut : List (List ℕ)) → Cuts 1024 text cut rest → 0 < length rest → length cut ≡ 1024
-full_batch text rest cut c more = elim (cases_lt (length cut) 1024) [
-  | inl less ↦ (let none : length rest ≡ 0 = ap length (c.full less) in absurd (omega (arith, more, none)))
-  | inr all ↦ (let few = c.few in omega (arith, all, few))
-]
