@@ -11,7 +11,11 @@ use Rattle.state_tuples.specs.Calls.{IsOnlyMove}
 abbrev pub Reads : Arc → Type 0
 Reads a = a.input ≡ 0 → ⊥
 
--- the source has to read at this state, and the tuple has one move alone, which reads nothing
+-- the tuple has one move alone, which reads nothing
+abbrev pub IsForcedOf : List Cascaded → Tuple → TupleArc → Type 0
+IsForcedOf cs t a = (c : Cascaded) → Contains cs c → IsOf c t → IsOnlyMove c t a
+
+-- so it is, and the source has to read at this state
 pub record IsForced (m : Machine) (cs : List Cascaded) (q : ℕ) (t : Tuple) (a : TupleArc) : Type 0 where
   pub source : All Reads (get_or m.arcs q [])
-  pub tuple : (c : Cascaded) → Contains cs c → IsOf c t → IsOnlyMove c t a
+  pub tuple : IsForcedOf cs t a

@@ -3,7 +3,7 @@
 ghost use Rattle.std.specs.Prelude.{◌≡◌, ◌<◌, ◌+◌, ◌^◌, [], All, Contains, IfSome, IsTrue, OnOk, length};
 ghost use Rattle.weighted_relations.specs.Graphs.{label as written};
 ghost use Rattle.state_tuples.specs.Cascades.{Cascaded, IsOf, next_of};
-ghost use Rattle.least_path.specs.Forcing.{IsForced, Reads};
+ghost use Rattle.least_path.specs.Forcing.{IsForced, IsForcedOf, Reads};
 ghost use Rattle.least_path.specs.Keeps.{IsEdge};
 ghost use Rattle.least_path.specs.Passing.{most_passed};
 ghost use Rattle.least_path.specs.Paying.{Adds, IsAt};
@@ -50,7 +50,8 @@ pub(crate) fn meet_along<X: Expander>(
     let mut last = *a;
     let mut next = next_tuple(tuple, a);
     let mut passed = 0;
-    while let Some(more) = forced_after(x, source, state, &next, passed) {
+    let readers = are_readers(source.arcs_of(state));
+    while let Some(more) = forced_after(x, &next, passed, readers) {
         way = search.go_on(&way, &last)?;
         next = next_tuple(&next, &more);
         last = more;
@@ -60,22 +61,20 @@ pub(crate) fn meet_along<X: Expander>(
     Ok(())
 }
 
-/// The only move on from a node, where so many nodes were passed over and this one may be, too.
-fn forced_after<X: Expander>(
-    x: &X,
-    source: &Fst,
-    state: usize,
-    tuple: &Tuple,
-    passed: usize,
-) -> Option<TupleArc>
-    requires { state < length source.now.arcs }
+/// The only move on from a tuple, where so many nodes were passed over and this one may be, too: the source has to read before it goes on, if
+/// all of its arcs are readers.
+fn forced_after<X: Expander>(x: &X, tuple: &Tuple, passed: usize, readers: bool) -> Option<TupleArc>
     ensures few { IfSome result (λ _. passed < most_passed) }
-    ensures only { IfSome result (IsForced source.now (X.cascades x.now) state tuple.now) }
+    ensures readers { IfSome result (λ _. IsTrue readers) }
+    ensures only { IfSome result (IsForcedOf (X.cascades x.now) tuple.now) }
 {
-    if passed >= MOST_PASSED {
+    if !readers || passed >= MOST_PASSED {
         return None;
     }
-    forced_at(x, source, state, tuple)
+    match x.onward(tuple) {
+        Onward::Forced(a) => Some(a),
+        _ => None,
+    }
 }
 
 /// Where a move leads.

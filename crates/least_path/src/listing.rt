@@ -66,7 +66,7 @@ pub(crate) fn least_by_lists<X: Expander>(
     let Some(way) = search.best_end() else {
         return Ok(Some(None));
     };
-    let labels = search.outputs.labels(alloc, way.output)?;
+    let labels = search.outputs.labels(alloc, way.output, way.length)?;
     Ok(Some(Some(Least {
         weight: way.weight,
         output: bytes_of(alloc, &labels)?,
@@ -82,5 +82,5 @@ fn usual_nodes(states: usize) -> usize {
 fn most_taken(nodes: usize) -> usize
     ensures { result ≤ 2 ^ 48 }
 {
-    min(nodes.saturating_mul(16).saturating_add(1000), 1 << 48)
+    min(nodes, 1 << 43) * 16 + 1000
 }

@@ -72,6 +72,16 @@ impl Outputs {
         if label == 0 {
             return Ok(at);
         }
+        self.one_more(at, label)
+    }
+
+    /// The number of an output with one label more, which isn't the empty one.
+    fn one_more(&mut self, at: usize, label: u16) -> Result<usize, AllocError>
+        requires { at < length self.old }
+        ensures number { IfOk result (λ n. n < length self.new) }
+        ensures text { IfOk result (λ n. text_of self.new n ≡ text_of self.old at ++ label ∷ []) }
+        ensures grows { Grows self.old self.new }
+    {
         if let Some(known) = find(&self.letters, &self.links, at, label) {
             return Ok(known);
         }
@@ -89,12 +99,12 @@ impl Outputs {
         is_below(&self.letters, a, b)
     }
 
-    /// The labels of an output.
-    pub fn labels(&self, alloc: Global, number: usize) -> Result<Vec<u16>, AllocError>
+    /// The labels of an output. There is room for so many from the beginning.
+    pub fn labels(&self, alloc: Global, number: usize, room: usize) -> Result<Vec<u16>, AllocError>
         requires { number < length self.now }
         ensures { IfOk result (λ v. v.items ≡ text_of self.now number) }
     {
-        labels(alloc, &self.letters, number)
+        labels(alloc, &self.letters, number, room)
     }
 }
 
@@ -187,13 +197,18 @@ fn decide(left: u16, right: u16, below: bool) -> bool
     if left != right { left < right } else { below }
 }
 
-/// The labels of an output.
-fn labels(alloc: Global, letters: &[Letter], number: usize) -> Result<Vec<u16>, AllocError>
+/// The labels of an output. There is room for so many from the beginning.
+fn labels(
+    alloc: Global,
+    letters: &[Letter],
+    number: usize,
+    room: usize,
+) -> Result<Vec<u16>, AllocError>
     requires made { IsMade letters.now }
     requires number { number < length (texts letters.now) }
     ensures { IfOk result (λ v. v.items ≡ text_of (texts letters.now) number) }
 {
-    let mut labels = Vec::new(alloc);
+    let mut labels = Vec::with_capacity(alloc, room)?;
     let mut at = number;
     while at > 0 {
         let letter = letters[at - 1];

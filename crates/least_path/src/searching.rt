@@ -75,7 +75,7 @@ pub fn least_by_queue<X: Expander>(
     while let Some(entry) = search.next() {
         match *search.nodes.key(entry.node) {
             Node::End => {
-                let labels = search.outputs.labels(alloc, entry.output)?;
+                let labels = search.outputs.labels(alloc, entry.output, entry.length)?;
                 return Ok(Some(Least {
                     weight: entry.weight,
                     output: bytes_of(alloc, &labels)?,

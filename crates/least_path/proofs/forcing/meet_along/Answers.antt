@@ -1,4 +1,5 @@
 use Rattle.std.proofs.Common.{◌≡◌, ◌+◌, ◌++◌, suc, [], refl, sym, ap, ◌∙◌, subst, arith, inr}
+use Rattle.std.specs.Prelude.{All}
 use Rattle.std.proofs.lemmas.List.Elements.{All-contains}
 use Rattle.weighted_relations.specs.Graphs.{label}
 use Rattle.state_tuples.specs.Cascades.{IsSound, next_of}
@@ -6,6 +7,7 @@ use Rattle.state_tuples.proofs.ClosedTuples.{tuples_are_closed}
 use Rattle.least_path.specs.declared.node.Node.TheVariants.{At}
 use Rattle.least_path.specs.Texts.{text_of}
 use Rattle.least_path.specs.Ending.{CanEnd}
+use Rattle.least_path.specs.Forcing.{IsForced, Reads}
 use Rattle.least_path.specs.Passing.{Passes}
 use Rattle.least_path.specs.Keeps.{IsEdge}
 use Rattle.least_path.specs.Growths.{Leading, Steps}
@@ -54,7 +56,11 @@ loop-more-preserved g c =
       short = (let a = c.in_ok-way.ensures.short in let b = c.loop-more.invariant.short in omega arith);
       came = λ d k h.
           let closed = tuples_are_closed d (All-contains IsSound (g.X.Expander.cascades c.args.x.now) d (g.met.X.Expander.sound c.args.x.now c.requires.ready) k) in
-          let came : Came c.args.source.now d c.args.state first w y (suc c.loop-more.passed) (next_of c.loop-more.next more) ((way.weight + last.weight) + more.weight) ((text_of c.loop-more.search.outputs way.output ++ label last.output []) ++ label more.output []) = came_more c.args.source.now d c.args.state first w y closed (g.X.Expander.cascades c.args.x.now) k c.loop-more.passed c.loop-more.next (way.weight + last.weight) (text_of c.loop-more.search.outputs way.output ++ label last.output []) (c.loop-more.invariant.came d k h) more c.in-Some.ensures.only in
+          let forced : IsForced c.args.source.now (g.X.Expander.cascades c.args.x.now) c.args.state c.loop-more.next more = record {
+            source = subst (All Reads) c.arcs_of.ensures.value (c.are_readers-readers.ensures c.in-Some.ensures.readers);
+            tuple = c.in-Some.ensures.only;
+          } in
+          let came : Came c.args.source.now d c.args.state first w y (suc c.loop-more.passed) (next_of c.loop-more.next more) ((way.weight + last.weight) + more.weight) ((text_of c.loop-more.search.outputs way.output ++ label last.output []) ++ label more.output []) = came_more c.args.source.now d c.args.state first w y closed (g.X.Expander.cascades c.args.x.now) k c.loop-more.passed c.loop-more.next (way.weight + last.weight) (text_of c.loop-more.search.outputs way.output ++ label last.output []) (c.loop-more.invariant.came d k h) more forced in
           let count : suc c.loop-more.passed ≡ c.loop-more.passed + 1 = omega arith in
           let weight : (way.weight + last.weight) + more.weight ≡ c.in_ok-way.way.weight + more.weight = ap (λ v. v + more.weight) (sym c.in_ok-way.ensures.weight) in
           let output : (text_of c.loop-more.search.outputs way.output ++ label last.output []) ++ label more.output [] ≡ text_of c.go_on.new.self.outputs c.in_ok-way.way.output ++ label more.output [] = ap (λ x. x ++ label more.output []) (sym c.in_ok-way.ensures.output) in
