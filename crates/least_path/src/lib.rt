@@ -33,9 +33,11 @@ mod outputs;
 mod queue;
 mod reaching;
 mod relaxing;
+mod rooms;
 mod searching;
 mod spreading;
 mod standings;
 
 pub use answers::Least;
-pub use searching::{least, least_by_queue};
+pub use rooms::Room;
+pub use searching::{least, least_by_queue, least_in};

@@ -12,11 +12,11 @@ use crate::queue::Entry;
 use crate::relaxing::Relaxed;
 use crate::spreading::spread;
 use fst_core::Fst;
-use state_tuples::{Expander, Tuple, cascades_read_their_parts};
+use state_tuples::{Expander, Tuple, TupleArc, cascades_read_their_parts};
 use std::alloc::{AllocError, Global};
 use std::cmp::min;
 
-/// The least reading as [`crate::least`] answers it, or `None` where the search gives up.
+/// The least reading as [`crate::least`] answers it, or `None` where the search gives up. What is in `search` and `buffer` is given up first.
 ///
 /// A search that corrects its labels, after Bellman, Ford and Moore: nodes are taken in the order in which they came, and one that gets a
 /// lesser way is taken again. A move that reads leads to the list after this one, so a node of a line is mostly taken once. Where the
@@ -26,6 +26,8 @@ pub(crate) fn least_by_lists<X: Expander>(
     source: &Fst,
     x: &mut X,
     start: &Tuple,
+    search: &mut Relaxed,
+    buffer: &mut Vec<TupleArc>,
 ) -> Result<Option<Option<Least>>, AllocError>
     requires ready { X.is_ready x.old }
     requires start { IsStart (X.cascades x.old) start.now }
@@ -38,7 +40,7 @@ pub(crate) fn least_by_lists<X: Expander>(
     ensures up { OnErr result (StopsAfter X.goes_on X.gives_up x.old x.new) }
 {
     cascades_read_their_parts();
-    let mut search = Relaxed::with_capacity(alloc, usual_nodes(source.len()))?;
+    search.clear(usual_nodes(source.len()))?;
     let nothing = Entry {
         weight: 0,
         length: 0,
@@ -47,7 +49,6 @@ pub(crate) fn least_by_lists<X: Expander>(
     };
     let first = Node::At(source.start(), *start);
     search.relax(first, &nothing, 0, 0, Turn::Now)?;
-    let mut buffer = Vec::new(alloc);
     let mut taken = 0;
     while let Some(number) = search.lists.take() {
         if taken >= most_taken(search.nodes.len()) {
@@ -61,7 +62,7 @@ pub(crate) fn least_by_lists<X: Expander>(
             continue;
         };
         search.marks[number] = Mark::Done(way);
-        spread(source, x, state, &tuple, &way, &mut search, &mut buffer)?;
+        spread(source, x, state, &tuple, &way, search, buffer)?;
     }
     let Some(way) = search.best_end() else {
         return Ok(Some(None));

@@ -1,6 +1,6 @@
 // The numbers of the nodes that wait, in two lists.
 
-ghost use Rattle.std.specs.Prelude.{◌≡◌, ◌∷◌, [], IfOk, MatchOption};
+ghost use Rattle.std.specs.Prelude.{◌≡◌, ◌∷◌, [], IfOk, MatchOption, OnOk};
 ghost use Rattle.std.specs.List.Sorted.{IsPermutation};
 
 use std::alloc::{AllocError, Global};
@@ -32,15 +32,27 @@ impl Model for Lists {
 }
 
 impl Lists {
-    /// Nothing waits. There is room for so many nodes in each list.
-    pub(crate) fn with_capacity(alloc: Global, room: usize) -> Result<Lists, AllocError>
-        ensures { IfOk result (λ l. l ≡ []) }
+    /// Nothing waits. It takes no memory yet.
+    pub(crate) fn new(alloc: Global) -> Lists
+        ensures { result ≡ [] }
     {
-        Ok(Lists {
-            now: Vec::with_capacity(alloc, room)?,
+        Lists {
+            now: Vec::new(alloc),
             taken: 0,
-            next: Vec::with_capacity(alloc, room)?,
-        })
+            next: Vec::new(alloc),
+        }
+    }
+
+    /// Nothing waits any longer, and there is room for so many nodes in each list.
+    pub(crate) fn clear(&mut self, room: usize) -> Result<(), AllocError>
+        ensures { OnOk result (self.new ≡ []) }
+    {
+        self.taken = 0;
+        self.now.clear();
+        self.next.clear();
+        self.now.reserve(room)?;
+        self.next.reserve(room)?;
+        Ok(())
     }
 
     /// A node waits.

@@ -1,6 +1,6 @@
 // Nodes by number, for a search by lists.
 
-ghost use Rattle.std.specs.Prelude.{◌≡◌, ◌≢◌, ◌<◌, IfOk, IfSome, MatchOption, Some, [], length, slice_get, ℕ};
+ghost use Rattle.std.specs.Prelude.{◌≡◌, ◌≢◌, ◌<◌, IfOk, IfSome, MatchOption, OnOk, Some, [], length, slice_get, ℕ};
 ghost use Rattle.least_path.specs.declared.node.Node.TheVariants.{End};
 ghost use Rattle.least_path.specs.declared.marks.Mark.TheVariants.{Unmet};
 ghost use Rattle.least_path.specs.Notes.{Arrived, HasOneEnd, Noted};
@@ -34,18 +34,30 @@ impl Model for Nodes {
 }
 
 impl Nodes {
-    /// No nodes, with room for so many.
-    pub(crate) fn with_capacity(alloc: Global, room: usize) -> Result<Nodes, AllocError>
-        ensures { IfOk result (λ n. n ≡ []) }
+    /// No nodes. It takes no memory yet.
+    pub(crate) fn new(alloc: Global) -> Nodes
+        ensures { result ≡ [] }
     {
-        let mut heads = Vec::new(alloc);
-        heads.resize(room, 0)?;
-        Ok(Nodes {
-            nodes: Vec::with_capacity(alloc, room)?,
+        Nodes {
+            nodes: Vec::new(alloc),
             end: None,
-            heads,
-            links: Vec::with_capacity(alloc, room)?,
-        })
+            heads: Vec::new(alloc),
+            links: Vec::new(alloc),
+        }
+    }
+
+    /// No nodes are left, and there is room for so many.
+    pub(crate) fn clear(&mut self, room: usize) -> Result<(), AllocError>
+        ensures { OnOk result (self.new ≡ []) }
+    {
+        self.end = None;
+        self.nodes.clear();
+        self.heads.clear();
+        self.links.clear();
+        self.nodes.reserve(room)?;
+        self.heads.resize(room, 0)?;
+        self.links.reserve(room)?;
+        Ok(())
     }
 
     /// How many nodes have a number.

@@ -1,6 +1,6 @@
 // Outputs by back references: each is another one and one label more.
 
-ghost use Rattle.std.specs.Prelude.{◌≡◌, ◌<◌, ◌++◌, ◌∷◌, ◌↔◌, ℕ, List, [], IsTrue, IfOk, IfSome, length};
+ghost use Rattle.std.specs.Prelude.{◌≡◌, ◌<◌, ◌++◌, ◌∷◌, ◌↔◌, ℕ, List, [], IsTrue, IfOk, IfSome, OnOk, length};
 ghost use Rattle.weighted_relations.specs.Least.{BytesBelow};
 ghost use Rattle.weighted_relations.specs.Graphs.{label as written};
 ghost use Rattle.least_path.specs.Texts.{texts, text_of, IsMade, Grows};
@@ -52,14 +52,15 @@ impl Outputs {
         }
     }
 
-    /// The empty output alone, with room for so many more.
-    pub fn with_capacity(alloc: Global, room: usize) -> Result<Outputs, AllocError>
-        ensures { IfOk result (λ o. o ≡ [] ∷ []) }
+    /// The empty output alone is left, and there is room for so many more.
+    pub fn clear(&mut self, room: usize) -> Result<(), AllocError>
+        ensures { OnOk result (self.new ≡ [] ∷ []) }
     {
-        Ok(Outputs {
-            letters: Vec::with_capacity(alloc, room)?,
-            links: Vec::with_capacity(alloc, room)?,
-        })
+        self.letters.clear();
+        self.links.clear();
+        self.letters.reserve(room)?;
+        self.links.reserve(room)?;
+        Ok(())
     }
 
     /// The number of an output with one label more; the empty label adds nothing.

@@ -33,16 +33,26 @@ impl Relaxed {
     ghost use Rattle.least_path.specs.Passing.{Stays};
     ghost use Rattle.least_path.specs.Relaxing.{Kept, Gained, IsBest, IsEmpty, IsMet};
 
-    /// Nothing is met. There is room for so many nodes.
-    pub(crate) fn with_capacity(alloc: Global, room: usize) -> Result<Relaxed, AllocError>
-        ensures { IfOk result IsEmpty }
+    /// Nothing is met. It takes no memory yet.
+    pub(crate) fn new(alloc: Global) -> Relaxed {
+        Relaxed {
+            nodes: Nodes::new(alloc),
+            marks: Vec::new(alloc),
+            outputs: Outputs::new(alloc),
+            lists: Lists::new(alloc),
+        }
+    }
+
+    /// Nothing is met any longer. There is room for so many nodes.
+    pub(crate) fn clear(&mut self, room: usize) -> Result<(), AllocError>
+        ensures { OnOk result (IsEmpty self.new) }
     {
-        Ok(Relaxed {
-            nodes: Nodes::with_capacity(alloc, room)?,
-            marks: Vec::with_capacity(alloc, room)?,
-            outputs: Outputs::with_capacity(alloc, room)?,
-            lists: Lists::with_capacity(alloc, USUAL_LIST)?,
-        })
+        self.nodes.clear(room)?;
+        self.marks.clear();
+        self.marks.reserve(room)?;
+        self.outputs.clear(room)?;
+        self.lists.clear(USUAL_LIST)?;
+        Ok(())
     }
 
     /// A node is met by a way of this weight and output more. Where the way is less than its best so far, it takes the place of this and

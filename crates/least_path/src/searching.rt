@@ -10,6 +10,7 @@ use crate::listing::least_by_lists;
 use crate::node::Node;
 use crate::queue::Entry;
 use crate::reaching::Search;
+use crate::rooms::Room;
 use fst_core::Fst;
 use state_tuples::{Expander, Tuple, cascades_read_their_parts};
 use std::alloc::{AllocError, Global};
@@ -36,7 +37,28 @@ pub fn least<X: Expander>(
     ensures on { OnOk result (X.goes_on x.old x.new) }
     ensures up { OnErr result (StopsAfter X.goes_on X.gives_up x.old x.new) }
 {
-    match least_by_lists(alloc, source, x, start)? {
+    let mut room = Room::new(alloc);
+    least_in(alloc, &mut room, source, x, start)
+}
+
+/// The same, in room that searches before it may have used.
+pub fn least_in<X: Expander>(
+    alloc: Global,
+    room: &mut Room,
+    source: &Fst,
+    x: &mut X,
+    start: &Tuple,
+) -> Result<Option<Least>, AllocError>
+    requires ready { X.is_ready x.old }
+    requires start { IsStart (X.cascades x.old) start.now }
+    requires bytes { WritesBytes (X.cascades x.old) start.now }
+    ensures least { IfOk result (λ answer. IsLeastFrom source.now (X.cascades x.old) start.now (option_map (λ l. (l.weight, l.output.items)) answer)) }
+    ensures calls { IfOk result (λ answer. IfSome answer (λ _. CallsForEach source.now (X.calls x.old) (X.calls x.new))) }
+    ensures ready { X.is_ready x.new }
+    ensures on { OnOk result (X.goes_on x.old x.new) }
+    ensures up { OnErr result (StopsAfter X.goes_on X.gives_up x.old x.new) }
+{
+    match least_by_lists(alloc, source, x, start, &mut room.search, &mut room.buffer)? {
         Some(answer) => Ok(answer),
         None => least_by_queue(alloc, source, x, start),
     }

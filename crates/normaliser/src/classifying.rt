@@ -12,6 +12,7 @@ use crate::faults::LineFault;
 use crate::normalisers::Normaliser;
 use crate::searching::output_of;
 use fst_core::text;
+use least_path::Room;
 use shared_cascade::Caller;
 use std::alloc::{AllocError, Global};
 
@@ -39,6 +40,7 @@ impl Normaliser {
         &self,
         alloc: Global,
         caller: &mut Caller,
+        room: &mut Room,
         line: &[u8],
     ) -> Result<Option<Vec<u8>>, AllocError>
         requires ready { IsReady self.now.shared caller.old }
@@ -50,7 +52,7 @@ impl Normaliser {
         ensures stopped { OnErr result (Stopped self.now.shared caller.old caller.new) }
     {
         let source = text(alloc, &labels(alloc, line)?)?;
-        output_of(alloc, &self.shared, caller, &self.classifier, &source)
+        output_of(alloc, &self.shared, caller, &self.classifier, &source, room)
     }
 }
 

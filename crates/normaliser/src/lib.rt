@@ -22,6 +22,7 @@ mod stalling;
 mod verbalising;
 
 pub use faults::{LineFault, LoadFault};
+pub use least_path::Room;
 pub use loading::load;
 pub use normalisers::{Normaliser, Spoken};
 pub use shared_cascade::{Caller, How, Stalled, Swept, Tally};

@@ -14,6 +14,7 @@ ghost use Rattle.normaliser.specs.Words.{Words};
 use crate::classifying::fault_of;
 use crate::faults::LineFault;
 use crate::normalisers::{Normaliser, Spoken};
+use least_path::Room;
 use shared_cascade::{Caller, Swept};
 use std::alloc::Global;
 use token_record::{Token, TokenFault, read_tokens};
@@ -34,6 +35,25 @@ impl Normaliser {
         ensures looks { LooksWhereRead self.now caller.old caller.new line.now result }
         ensures kept { (IsSearched line.now → ⊥) → caller.new ≡ caller.old }
     {
+        let mut room = Room::new(alloc);
+        self.classify_line_in(alloc, caller, &mut room, line)
+    }
+
+    /// The same, in room that lines before it may have used.
+    pub fn classify_line_in(
+        &self,
+        alloc: Global,
+        caller: &mut Caller,
+        room: &mut Room,
+        line: &[u8],
+    ) -> Result<Spoken, LineFault>
+        requires ready { IsCallerOf self.now caller.old }
+        ensures said { IsSaid (Classified (classifier_of self.now)) line.now result }
+        ensures ready { IsCallerOf self.now caller.new }
+        ensures searched { Did self.now.shared caller.old caller.new result }
+        ensures looks { LooksWhereRead self.now caller.old caller.new line.now result }
+        ensures kept { (IsSearched line.now → ⊥) → caller.new ≡ caller.old }
+    {
         if line.is_empty() {
             return Ok(Spoken {
                 words: Vec::new(alloc),
@@ -42,7 +62,7 @@ impl Normaliser {
         if let Some(fault) = fault_of(line) {
             return Err(fault);
         }
-        match self.classified(alloc, caller, line)? {
+        match self.classified(alloc, caller, room, line)? {
             Some(words) => Ok(Spoken { words }),
             None => Err(LineFault::NoPath),
         }
@@ -64,14 +84,33 @@ impl Normaliser {
         ensures looks { LooksWhereRead self.now caller.old caller.new line.now result }
         ensures kept { (IsSearched line.now → ⊥) → caller.new ≡ caller.old }
     {
+        let mut room = Room::new(alloc);
+        self.speak_line_in(alloc, caller, &mut room, line)
+    }
+
+    /// The same, in room that lines before it may have used.
+    pub fn speak_line_in(
+        &self,
+        alloc: Global,
+        caller: &mut Caller,
+        room: &mut Room,
+        line: &[u8],
+    ) -> Result<Spoken, LineFault>
+        requires ready { IsCallerOf self.now caller.old }
+        ensures said { IsSaid (Words (classifier_of self.now) (verbaliser_of self.now)) line.now result }
+        ensures ready { IsCallerOf self.now caller.new }
+        ensures searched { Did self.now.shared caller.old caller.new result }
+        ensures looks { LooksWhereRead self.now caller.old caller.new line.now result }
+        ensures kept { (IsSearched line.now → ⊥) → caller.new ≡ caller.old }
+    {
         if line.is_empty() {
             return Ok(Spoken {
                 words: Vec::new(alloc),
             });
         }
-        let text = self.classify_line(alloc, caller, line)?.words;
+        let text = self.classify_line_in(alloc, caller, room, line)?.words;
         let tokens = tokens_of(alloc, &text)?;
-        let words = self.words_of(alloc, caller, &tokens)?;
+        let words = self.words_of(alloc, caller, room, &tokens)?;
         Ok(Spoken { words })
     }
 

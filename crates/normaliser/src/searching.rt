@@ -13,7 +13,7 @@ ghost use Rattle.normaliser.specs.Parts.{IsOutput};
 ghost use Rattle.normaliser.specs.Searches.{Searched, Stopped};
 
 use fst_core::Fst;
-use least_path::{Least, least};
+use least_path::{Least, Room, least_in};
 use shared_cascade::{Caller, Hand, Shared};
 use state_tuples::Tuple;
 use std::alloc::{AllocError, Global};
@@ -25,6 +25,7 @@ pub(crate) fn output_of(
     caller: &mut Caller,
     start: &Tuple,
     source: &Fst,
+    room: &mut Room,
 ) -> Result<Option<Vec<u8>>, AllocError>
     requires ready { IsReady shared.now caller.old }
     requires begins { (n : ℕ) × Begins (cascades_in shared.now) n start.now × IsUnmarked (relation_at n (cascades_in shared.now)) }
@@ -35,7 +36,7 @@ pub(crate) fn output_of(
     ensures stopped { OnErr result (Stopped shared.now caller.old caller.new) }
 {
     let mut hand = Hand { shared, caller };
-    match least_by(alloc, source, &mut hand, start) {
+    match least_by(alloc, source, &mut hand, start, room) {
         Ok(Some(found)) => Ok(Some(found.output)),
         Ok(None) => Ok(None),
         Err(e) => Err(e),
@@ -48,6 +49,7 @@ fn least_by(
     source: &Fst,
     hand: &mut Hand<'_>,
     start: &Tuple,
+    room: &mut Room,
 ) -> Result<Option<Least>, AllocError>
     requires ready { IsReady hand.old.shared.now hand.old.caller.now }
     requires begins { (n : ℕ) × Begins (cascades_in hand.old.shared.now) n start.now × IsUnmarked (relation_at n (cascades_in hand.old.shared.now)) }
@@ -58,5 +60,5 @@ fn least_by(
     ensures searched { OnOk result (Searched hand.old.shared.now hand.old.caller.now hand.new.caller.now) }
     ensures stopped { OnErr result (Stopped hand.old.shared.now hand.old.caller.now hand.new.caller.now) }
 {
-    least(alloc, source, hand, start)
+    least_in(alloc, room, source, hand, start)
 }

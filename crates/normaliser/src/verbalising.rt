@@ -15,6 +15,7 @@ use crate::faults::LineFault;
 use crate::normalisers::Normaliser;
 use crate::searching::output_of;
 use field_orders::orders;
+use least_path::Room;
 use shared_cascade::Caller;
 use std::alloc::{AllocError, Global};
 use token_record::{Record, Token, field_count};
@@ -28,6 +29,7 @@ impl Normaliser {
         &self,
         alloc: Global,
         caller: &mut Caller,
+        room: &mut Room,
         tokens: &[Token],
     ) -> Result<Vec<u8>, LineFault>
         requires ready { IsReady self.now.shared caller.old }
@@ -39,7 +41,7 @@ impl Normaliser {
         if let Some(token) = first_too_large(tokens) {
             return Err(LineFault::TooManyFields { token });
         }
-        self.joined(alloc, caller, tokens)
+        self.joined(alloc, caller, room, tokens)
     }
 
     /// The words of tokens, joined by single spaces, or the first token without words.
@@ -47,6 +49,7 @@ impl Normaliser {
         &self,
         alloc: Global,
         caller: &mut Caller,
+        room: &mut Room,
         tokens: &[Token],
     ) -> Result<Vec<u8>, LineFault>
         requires ready { IsReady self.now.shared caller.old }
@@ -58,7 +61,7 @@ impl Normaliser {
     {
         let mut words = Vec::new(alloc);
         for (i, token) in tokens.iter().enumerate() {
-            if !self.put_words(alloc, caller, token, &mut words)? {
+            if !self.put_words(alloc, caller, room, token, &mut words)? {
                 return Err(LineFault::NoWords {
                     token: i as u64 + 1,
                 });
@@ -72,6 +75,7 @@ impl Normaliser {
         &self,
         alloc: Global,
         caller: &mut Caller,
+        room: &mut Room,
         token: &Token,
         words: &mut Vec<u8>,
     ) -> Result<bool, AllocError>
@@ -89,7 +93,7 @@ impl Normaliser {
                 Ok(true)
             }
             Token::Silent => Ok(true),
-            Token::Class(record) => match self.verbalised(alloc, caller, record)? {
+            Token::Class(record) => match self.verbalised(alloc, caller, room, record)? {
                 Some(own) => {
                     join(words, &own)?;
                     Ok(true)
@@ -104,6 +108,7 @@ impl Normaliser {
         &self,
         alloc: Global,
         caller: &mut Caller,
+        room: &mut Room,
         r: &Record,
     ) -> Result<Option<Vec<u8>>, AllocError>
         requires ready { IsReady self.now.shared caller.old }
@@ -114,7 +119,7 @@ impl Normaliser {
         ensures stopped { OnErr result (Stopped self.now.shared caller.old caller.new) }
     {
         let texts = orders(alloc, r)?;
-        output_of(alloc, &self.shared, caller, &self.verbaliser, &texts)
+        output_of(alloc, &self.shared, caller, &self.verbaliser, &texts, room)
     }
 }
 

@@ -9,7 +9,7 @@ use crate::batches::Heard;
 use crate::crews::is_turn;
 use crate::speakers::Speaker;
 use crate::watch::Watch;
-use normaliser::{Caller, Swept};
+use normaliser::{Caller, Room, Swept};
 use std::alloc::{AllocError, Global};
 use std::collections::VecDeque;
 
@@ -69,9 +69,12 @@ fn answer_share<W: Watch>(
     ensures heard { HearsFront (says_of speaker.now) (lines_of_share share.old) result.items }
 {
     let mut heard = VecDeque::new(alloc);
+    let mut room = Room::new(alloc);
     let mut number = share.first;
     for line in share.lines {
-        let Ok(()) = answer_one(alloc, watch, speaker, share, number, line, &mut heard) else {
+        let Ok(()) = answer_one(
+            alloc, watch, speaker, share, &mut room, number, line, &mut heard,
+        ) else {
             return heard;
         };
         number += 1;
@@ -85,6 +88,7 @@ fn answer_one<W: Watch>(
     watch: &W,
     speaker: &Speaker,
     share: &mut Share<'_>,
+    room: &mut Room,
     number: u64,
     line: &[u8],
     heard: &mut VecDeque<Heard>,
@@ -102,7 +106,7 @@ fn answer_one<W: Watch>(
         return Ok(());
     }
     watch.before(share.worker + 1, number);
-    let answer = speaker.answer(alloc, &mut share.caller, line);
+    let answer = speaker.answer(alloc, &mut share.caller, room, line);
     watch.after(share.worker + 1, number);
     heard.push_back(answer?)?;
     Ok(())

@@ -8,7 +8,7 @@ ghost use Rattle.speak_core.specs.Parts.{IsPart, answer_of, is_short, says_of};
 use crate::batches::Heard;
 use crate::crews::Crew;
 use crate::requests::Mode;
-use normaliser::{Caller, LineFault, Normaliser, Spoken};
+use normaliser::{Caller, LineFault, Normaliser, Room, Spoken};
 use std::alloc::{AllocError, Global};
 
 /// A normaliser, and what is asked of it for each line.
@@ -31,6 +31,7 @@ impl Speaker {
         &self,
         alloc: Global,
         caller: &mut Caller,
+        room: &mut Room,
         line: &[u8],
     ) -> Result<Heard, AllocError>
         requires ready { IsCallerOf self.now.normaliser caller.old }
@@ -39,7 +40,7 @@ impl Speaker {
         ensures ready { IsCallerOf self.now.normaliser caller.new }
     {
         let _others = caller.take_tally();
-        let answer = self.say(alloc, caller, line);
+        let answer = self.say(alloc, caller, room, line);
         let tally = caller.take_tally();
         let was_short = is_short(&answer);
         if was_short {
@@ -48,7 +49,13 @@ impl Speaker {
         Ok(Heard { answer, tally })
     }
 
-    fn say(&self, alloc: Global, caller: &mut Caller, line: &[u8]) -> Result<Spoken, LineFault>
+    fn say(
+        &self,
+        alloc: Global,
+        caller: &mut Caller,
+        room: &mut Room,
+        line: &[u8],
+    ) -> Result<Spoken, LineFault>
         requires ready { IsCallerOf self.now.normaliser caller.old }
         ensures said { IsSaid (says_of self.now) line.now result }
         ensures ready { IsCallerOf self.now.normaliser caller.new }
@@ -56,8 +63,8 @@ impl Speaker {
         ensures kept { (IsSearched line.now → ⊥) → caller.new ≡ caller.old }
     {
         match self.mode {
-            Mode::Classify => self.normaliser.classify_line(alloc, caller, line),
-            Mode::Speak => self.normaliser.speak_line(alloc, caller, line),
+            Mode::Classify => self.normaliser.classify_line_in(alloc, caller, room, line),
+            Mode::Speak => self.normaliser.speak_line_in(alloc, caller, room, line),
         }
     }
 }

@@ -35,17 +35,17 @@ closed_of cascades start sounds d h = tuples_are_closed d (sound_of cascades sta
 
 pub loop-number-init : goal.loop-number-init
 loop-number-init g c =
-    let s0 : Relaxed = c.in_ok-search.search in
+    let s0 : Relaxed = c.clear.new.self in
     let s : Relaxed = c.relax.new.self in
-    let none : text_of c.in_ok-search.search.outputs 0 ≡ [] = ap (λ t. text_of t 0) c.in_ok-search.ensures.outputs in
-    let at : Gained Stays Every s0 s 0 [] (IsEdge (At c.args.source.now.start c.args.start.now) 0 []) = subst (λ y. Gained Stays Every c.in_ok-search.search c.relax.new.self 0 y (IsEdge (At c.args.source.now.start c.args.start.now) 0 [])) none (subst (λ q. Gained Stays Every c.in_ok-search.search c.relax.new.self 0 (text_of c.in_ok-search.search.outputs 0) (IsEdge (At q c.args.start.now) 0 [])) c.start.ensures.value c.in_ok-relax.ensures) in
+    let none : text_of c.clear.new.self.outputs 0 ≡ [] = ap (λ t. text_of t 0) c.in_ok-clear.ensures.outputs in
+    let at : Gained Stays Every s0 s 0 [] (IsEdge (At c.args.source.now.start c.args.start.now) 0 []) = subst (λ y. Gained Stays Every c.clear.new.self c.relax.new.self 0 y (IsEdge (At c.args.source.now.start c.args.start.now) 0 [])) none (subst (λ q. Gained Stays Every c.clear.new.self c.relax.new.self 0 (text_of c.clear.new.self.outputs 0) (IsEdge (At q c.args.start.now) 0 [])) c.start.ensures.value c.in_ok-relax.ensures) in
     record {
       sound = c.start.ensures.sound;
-      runs = λ d h. runs_start c.args.source.now d c.start.ensures.sound (closed_of (g.X.Expander.cascades c.args.x.now) c.args.start.now (g.met.X.Expander.sound c.args.x.now c.requires.ready) d h) s0 s c.in_ok-search.ensures.nodes (subst (λ t. Gained Stays Every c.in_ok-search.search c.relax.new.self 0 [] (IsEdge (At c.args.source.now.start t) 0 [])) h.first at) c.in_ok-search.ensures.marks;
+      runs = λ d h. runs_start c.args.source.now d c.start.ensures.sound (closed_of (g.X.Expander.cascades c.args.x.now) c.args.start.now (g.met.X.Expander.sound c.args.x.now c.requires.ready) d h) s0 s c.in_ok-clear.ensures.nodes (subst (λ t. Gained Stays Every c.clear.new.self c.relax.new.self 0 [] (IsEdge (At c.args.source.now.start t) 0 [])) h.first at) c.in_ok-clear.ensures.marks;
       ready = c.requires.ready;
       on = g.met.X.Expander.on_self c.args.x.now;
       risen = risen_self (g.X.Expander.calls c.args.x.now);
-      paid = paid_start c.args.source.now (g.X.Expander.calls c.args.x.now) s0.nodes s.nodes c.in_ok-search.ensures.nodes (adds_at c.args.source.now.start c.args.start.now s0.nodes s.nodes (adds_met s0 s (At c.args.source.now.start c.args.start.now) 0 0 [] [] at));
+      paid = paid_start c.args.source.now (g.X.Expander.calls c.args.x.now) s0.nodes s.nodes c.in_ok-clear.ensures.nodes (adds_at c.args.source.now.start c.args.start.now s0.nodes s.nodes (adds_met s0 s (At c.args.source.now.start c.args.start.now) 0 0 [] [] at));
     }
 
 pub index-requires : goal.index-requires

@@ -9,7 +9,7 @@ use Rattle.normaliser.proofs.Searchings.{did_with, searched_none}
 use Rattle.std.specs.Prelude.{IfSome}
 use Rattle.normaliser.specs.Searches.{LooksThrough}
 use Rattle.normaliser.proofs.Looking.{not_empty, not_read, not_unsearched}
-use Rattle.normaliser.proofs.normalisers.Normaliser.classify_line.Goals as goal
+use Rattle.normaliser.proofs.normalisers.Normaliser.classify_line_in.Goals as goal
 
 pub returns-then-is_empty-clause-said : goal.returns-then-is_empty-clause-said
 returns-then-is_empty-clause-said c = empty_classified (classifier_of c.args.self.now) c.args.line.now c.new.result.items (nothing c.args.line.now (first_of (search rules, grind (arith, common_steps)))) c.new.ensures.items

@@ -11,7 +11,7 @@ use Rattle.normaliser.proofs.LineAnswers.{nothing}
 use Rattle.normaliser.proofs.Sayings.{empty_said, found_as, no_tokens_said, tokens_said, unclassified_said, unsaid}
 use Rattle.normaliser.proofs.Searchings.{did_after, did_with, searched_more, searched_none}
 use Rattle.normaliser.proofs.Looking.{did_search, looked_before, not_empty}
-use Rattle.normaliser.proofs.normalisers.Normaliser.speak_line.Goals as goal
+use Rattle.normaliser.proofs.normalisers.Normaliser.speak_line_in.Goals as goal
 
 pub returns-then-is_empty-clause-said : goal.returns-then-is_empty-clause-said
 returns-then-is_empty-clause-said c = empty_said (classifier_of c.args.self.now) (verbaliser_of c.args.self.now) c.args.line.now c.new.result.items (nothing c.args.line.now (first_of (search rules, grind (arith, common_steps)))) c.new.ensures.items
@@ -55,12 +55,12 @@ returns-in_err-text-clause-searched c =
     rw (p.1, p.2) c.in_err-text.ensures.searched
 
 pub returns-in_err-tokens-clause-searched : goal.returns-in_err-tokens-clause-searched
-returns-in_err-tokens-clause-searched c = did_with c.args.self.now.shared c.args.caller.now c.classify_line.new.caller c.in_ok-text.ensures.searched _
+returns-in_err-tokens-clause-searched c = did_with c.args.self.now.shared c.args.caller.now c.classify_line_in.new.caller c.in_ok-text.ensures.searched _
 
 pub returns-in_err-words-clause-searched : goal.returns-in_err-words-clause-searched
 returns-in_err-words-clause-searched c =
     let p = err_from_is_err_and c.from_residual-in_err-words.result c.from_residual-in_err-words.ensures.1 in
-    rw (p.1, p.2) (did_after c.args.self.now.shared (Vec ℕ Global) Spoken c.args.caller.now c.classify_line.new.caller c.words_of.new.caller c.in_ok-text.ensures.searched c.in_err-words.field-0.0 c.in_err-words.ensures.searched)
+    rw (p.1, p.2) (did_after c.args.self.now.shared (Vec ℕ Global) Spoken c.args.caller.now c.classify_line_in.new.caller c.words_of.new.caller c.in_ok-text.ensures.searched c.in_err-words.field-0.0 c.in_err-words.ensures.searched)
 
 pub returns-in_err-words-clause-kept : goal.returns-in_err-words-clause-kept
 returns-in_err-words-clause-kept c =
@@ -69,7 +69,7 @@ returns-in_err-words-clause-kept c =
     λ lost. absurd (lost found.searched)
 
 pub returns-clause-searched : goal.returns-clause-searched
-returns-clause-searched c = searched_more c.args.self.now.shared c.args.caller.now c.classify_line.new.caller c.words_of.new.caller c.in_ok-text.ensures.searched c.in_ok-words.ensures.searched
+returns-clause-searched c = searched_more c.args.self.now.shared c.args.caller.now c.classify_line_in.new.caller c.words_of.new.caller c.in_ok-text.ensures.searched c.in_ok-words.ensures.searched
 
 pub returns-clause-kept : goal.returns-clause-kept
 returns-clause-kept c =
@@ -91,7 +91,7 @@ returns-in_err-tokens-clause-looks c = λ searched read had. c.in_ok-text.ensure
 pub returns-in_err-words-clause-looks : goal.returns-in_err-words-clause-looks
 returns-in_err-words-clause-looks c =
     let p = err_from_is_err_and c.from_residual-in_err-words.result c.from_residual-in_err-words.ensures.1 in
-    rw (p.1, p.2) (λ searched read had. looked_before c.args.self.now.shared c.args.caller.now c.classify_line.new.caller c.words_of.new.caller c.args.line.now (c.in_ok-text.ensures.looks searched read tt) (did_search (Vec ℕ Global) Spoken c.args.self.now.shared c.classify_line.new.caller c.words_of.new.caller c.in_err-words.field-0.0 c.in_err-words.ensures.searched had))
+    rw (p.1, p.2) (λ searched read had. looked_before c.args.self.now.shared c.args.caller.now c.classify_line_in.new.caller c.words_of.new.caller c.args.line.now (c.in_ok-text.ensures.looks searched read tt) (did_search (Vec ℕ Global) Spoken c.args.self.now.shared c.classify_line_in.new.caller c.words_of.new.caller c.in_err-words.field-0.0 c.in_err-words.ensures.searched had))
 
 pub returns-clause-looks : goal.returns-clause-looks
-returns-clause-looks c = λ searched read had. looked_before c.args.self.now.shared c.args.caller.now c.classify_line.new.caller c.words_of.new.caller c.args.line.now (c.in_ok-text.ensures.looks searched read tt) c.in_ok-words.ensures.searched
+returns-clause-looks c = λ searched read had. looked_before c.args.self.now.shared c.args.caller.now c.classify_line_in.new.caller c.words_of.new.caller c.args.line.now (c.in_ok-text.ensures.looks searched read tt) c.in_ok-words.ensures.searched
