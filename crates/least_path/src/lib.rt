@@ -1,7 +1,7 @@
 //! The least reading of a cascade at the inputs of a source: by weight, then by the length of the output, then by its bytes.
 //!
 //! [`least`] searches over the states of the source and the tuples of an `Expander`. Nodes have numbers, and outputs are back references into
-//! one list (`outputs`). Two searches are there:
+//! one list (`outputs`). Searches one after the other may use one [`Room`] ([`least_in`]). Two searches are there:
 //!
 //! - By lists (`listing`): nodes are taken in the order in which they came, first those at this place of the source and then those after the next
 //!   label. Each keeps the best way so far (`marks`, `nodes`), and one that gets a lesser way waits again (`relaxing`). Nodes from which the

@@ -2,7 +2,7 @@
 //!
 //! [`load`] builds the rules of both cascades over one table ([`shared_cascade`]), whose callers it hands out. By one of them
 //! [`Normaliser::classify_line`] gives the classifier's output for a line, and [`Normaliser::speak_line`] its words, whatever other callers do
-//! at the same time. Each leaves its caller ready for the next line.
+//! at the same time. Each leaves its caller ready for the next line. Lines one after the other may use one [`Room`] for their searches.
 //!
 //! The contracts speak of relations alone. `specs/Loads.antt` says which rules are refused, `specs/Lines.antt` what a line is
 //! classified as, and `specs/Words.antt` which words its tokens have: each record's are the output of the least reading of the
