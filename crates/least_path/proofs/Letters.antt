@@ -1,5 +1,5 @@
 -- The outputs that letters make.
-use Rattle.std.proofs.Common.{◌≡◌, ◌<◌, ◌≤◌, ℕ, zero, suc, ◌+◌, ◌-◌, List, [], ◌∷◌, ◌++◌, length, get_or, arith, refl, sym, ap, ◌∙◌, subst, inl, inr, length-append, append_assoc}
+use Rattle.std.proofs.Common.{◌≡◌, ◌<◌, ◌≤◌, ℕ, zero, suc, ◌+◌, ◌-◌, List, [], ◌∷◌, ◌++◌, length, get_or, set, arith, refl, sym, ap, ◌∙◌, subst, inl, inr, length-append, append_assoc}
 use Rattle.std.specs.Prelude.{reverse}
 use Rattle.std.proofs.lemmas.Bool.{cases_lt}
 use Rattle.std.proofs.lemmas.List.{get_or_append_left, get_or-append-add, append-nil, reverse-append}
@@ -88,6 +88,16 @@ made_push letters l made h k d n = elim (cases_lt k (length letters)) [
       let at : get_or (letters ++ l ∷ []) k d ≡ l = ap (λ t. get_or (letters ++ l ∷ []) t d) same ∙ get_or-append-add letters (l ∷ []) 0 d in
       subst (λ (t : Letter). t.before < k + 1) (sym at) (omega arith)
 ]
+
+-- letters tell the same outputs with another link in one of them
+module _ (d : Letter) where
+  after_set : (known : List (List ℕ)) (letters : List Letter) (k : ℕ) (l : Letter) → l.before ≡ (get_or letters k d).before → l.label ≡ (get_or letters k d).label → texts_after known (set letters k l) ≡ texts_after known letters
+  after_set known [] k l b e = refl
+  after_set known (a ∷ letters) zero l b e = ap (λ n. texts_after (known ++ (get_or known n [] ++ l.label ∷ []) ∷ []) letters) b ∙ ap (λ n. texts_after (known ++ (get_or known a.before [] ++ n ∷ []) ∷ []) letters) e
+  after_set known (a ∷ letters) (suc k) l b e = after_set (known ++ (get_or known a.before [] ++ a.label ∷ []) ∷ []) letters k l b e
+
+  pub texts_set : (letters : List Letter) (k : ℕ) (l : Letter) → l.before ≡ (get_or letters k d).before → l.label ≡ (get_or letters k d).label → texts (set letters k l) ≡ texts letters
+  texts_set letters k l b e = after_set ([] ∷ []) letters k l b e
 
 pub push_number : (letters : List Letter) (l : Letter) → length letters + 1 < length (texts (letters ++ l ∷ []))
 push_number letters l =

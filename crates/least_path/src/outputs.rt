@@ -8,26 +8,22 @@ ghost use Rattle.least_path.specs.Texts.{texts, text_of, IsMade, Grows};
 use std::alloc::{AllocError, Global};
 use std::marker::Model;
 
-/// The last label of an output, and the output before it.
+/// The last label of an output, and the output before it. Of the outputs that are one label longer than this one it tells the last that came,
+/// and of those that go on from the same output the one that came before this. 0 is none. These two only help to find an output that is known.
 #[derive(Clone, Copy)]
 pub(crate) struct Letter {
     pub(crate) before: usize,
     pub(crate) label: u16,
+    pub(crate) longer: usize,
+    pub(crate) beside: usize,
 }
 
-/// The outputs that are one label longer than one: the first, and the next beside it. 0 is none.
-#[derive(Clone, Copy)]
-struct Link {
-    longer: usize,
-    beside: usize,
-}
-
-/// Outputs by number. 0 is the empty one, and the letter at k is the last of number k + 1. The
-/// links only help to find an output that is known.
+/// Outputs by number. 0 is the empty one, and the letter at k is the last of number k + 1. `longer` is of the empty one what letters tell of
+/// the others.
 #[derive(Drop)]
 pub(crate) struct Outputs {
     letters: Vec<Letter>,
-    links: Vec<Link>,
+    longer: usize,
 }
 
 impl Model for Outputs {
@@ -48,7 +44,7 @@ impl Outputs {
     {
         Outputs {
             letters: Vec::new(alloc),
-            links: Vec::new(alloc),
+            longer: 0,
         }
     }
 
@@ -57,9 +53,8 @@ impl Outputs {
         ensures { OnOk result (self.new ≡ [] ∷ []) }
     {
         self.letters.clear();
-        self.links.clear();
+        self.longer = 0;
         self.letters.reserve(room)?;
-        self.links.reserve(room)?;
         Ok(())
     }
 
@@ -83,11 +78,16 @@ impl Outputs {
         ensures text { IfOk result (λ n. text_of self.new n ≡ text_of self.old at ++ label ∷ []) }
         ensures grows { Grows self.old self.new }
     {
-        if let Some(known) = find(&self.letters, &self.links, at, label) {
+        let last = longer_than(&self.letters, self.longer, at);
+        if let Some(known) = find(&self.letters, last, at, label) {
             return Ok(known);
         }
-        let number = add(&mut self.letters, at, label)?;
-        note_longer(&mut self.links, at, number)?;
+        let number = add(&mut self.letters, at, label, last)?;
+        if at == 0 {
+            self.longer = number;
+        } else {
+            note_longer(&mut self.letters, at, number);
+        }
         Ok(number)
     }
 
@@ -109,8 +109,19 @@ impl Outputs {
     }
 }
 
-/// Adds an output.
-fn add(letters: &mut Vec<Letter>, at: usize, label: u16) -> Result<usize, AllocError>
+/// The last that came of the outputs that are one label longer than this one, or 0. The one that is told of the empty output stands beside.
+fn longer_than(letters: &[Letter], of_empty: usize, at: usize) -> usize {
+    if at == 0 {
+        return of_empty;
+    }
+    match letters.get(at - 1) {
+        Some(letter) => letter.longer,
+        None => 0,
+    }
+}
+
+/// Adds an output, beside the last that goes on from the same one.
+fn add(letters: &mut Vec<Letter>, at: usize, label: u16, beside: usize) -> Result<usize, AllocError>
     requires made { IsMade letters.old.items }
     requires at { at < length (texts letters.old.items) }
     ensures made { IsMade letters.new.items }
@@ -118,52 +129,42 @@ fn add(letters: &mut Vec<Letter>, at: usize, label: u16) -> Result<usize, AllocE
     ensures text { IfOk result (λ n. text_of (texts letters.new.items) n ≡ text_of (texts letters.old.items) at ++ label ∷ []) }
     ensures grows { Grows (texts letters.old.items) (texts letters.new.items) }
 {
-    letters.push(Letter { before: at, label })?;
+    letters.push(Letter {
+        before: at,
+        label,
+        longer: 0,
+        beside,
+    })?;
     Ok(letters.len())
 }
 
-/// Notes a new output beside those that are as long.
-fn note_longer(links: &mut Vec<Link>, at: usize, number: usize) -> Result<(), AllocError> {
-    for _ in links.len()..number {
-        links.push(Link {
-            longer: 0,
-            beside: 0,
-        })?;
-    }
-    let beside = match links.get(at) {
-        Some(link) => link.longer,
-        None => 0,
-    };
-    links.push(Link { longer: 0, beside })?;
-    if let Some(link) = links.get_mut(at) {
-        link.longer = number;
-    }
-    Ok(())
+/// Notes of an output that another one is longer by a label.
+fn note_longer(letters: &mut Vec<Letter>, at: usize, number: usize)
+    requires made { IsMade letters.old.items }
+    requires some { 0 < at }
+    requires at { at < length (texts letters.old.items) }
+    ensures made { IsMade letters.new.items }
+    ensures texts { texts letters.new.items ≡ texts letters.old.items }
+{
+    letters[at - 1].longer = number;
 }
 
-/// The output that goes on from this one with this label, if it is known.
-fn find(letters: &[Letter], links: &[Link], at: usize, label: u16) -> Option<usize>
+/// The output that goes on from this one with this label, if it is known: it is sought from this number on, among those beside each other.
+fn find(letters: &[Letter], last: usize, at: usize, label: u16) -> Option<usize>
     requires { IsMade letters.now }
     ensures number { IfSome result (λ n. n < length (texts letters.now)) }
     ensures text { IfSome result (λ n. text_of (texts letters.now) n ≡ text_of (texts letters.now) at ++ label ∷ []) }
 {
-    let mut number = match links.get(at) {
-        Some(link) => link.longer,
-        None => 0,
-    };
+    let mut number = last;
     while number > 0 && number <= letters.len() {
         let letter = letters[number - 1];
         if letter.before == at && letter.label == label {
             return Some(number);
         }
-        let next = match links.get(number) {
-            Some(link) => link.beside,
-            None => 0,
-        };
-        if next >= number {
+        if letter.beside >= number {
             return None;
         }
-        number = next;
+        number = letter.beside;
     }
     None
 }

@@ -5,7 +5,7 @@ use Rattle.least_path.specs.declared.outputs.Letter.{Letter}
 use Rattle.least_path.proofs.outputs.is_below.Goals as goal
 
 abbrev none : Letter
-none = record { before = 0; label = 0 }
+none = record { before = 0; label = 0; longer = 0; beside = 0 }
 
 pub loop-x-init : goal.loop-x-init
 loop-x-init c = (c.requires.first, c.requires.second, λ even. walk_start (texts c.args.letters.now) c.args.a c.args.b c.requires.first c.requires.second even)
