@@ -4,7 +4,7 @@ ghost use Rattle.std.specs.Prelude.{◌≡◌, ◌≤◌, ◌^◌, IfOk, IfSome,
 ghost use Rattle.least_path.specs.Counting.{CallsForEach, HasRisen};
 ghost use Rattle.least_path.specs.Starting.{IsLeastFrom, IsStart, StopsAfter, WritesBytes};
 
-use crate::answers::{Least, bytes_of};
+use crate::answers::Least;
 use crate::lists::Turn;
 use crate::marks::Mark;
 use crate::node::Node;
@@ -67,10 +67,9 @@ pub(crate) fn least_by_lists<X: Expander>(
     let Some(way) = search.best_end() else {
         return Ok(Some(None));
     };
-    let labels = search.outputs.labels(alloc, way.output, way.length)?;
     Ok(Some(Some(Least {
         weight: way.weight,
-        output: bytes_of(alloc, &labels)?,
+        output: search.outputs.bytes(alloc, way.output, way.length)?,
     })))
 }
 

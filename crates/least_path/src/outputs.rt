@@ -1,6 +1,6 @@
 // Outputs by back references: each is another one and one label more.
 
-ghost use Rattle.std.specs.Prelude.{◌≡◌, ◌<◌, ◌++◌, ◌∷◌, ◌↔◌, ℕ, List, [], IsTrue, IfOk, IfSome, OnOk, length};
+ghost use Rattle.std.specs.Prelude.{◌≡◌, ◌<◌, ◌++◌, ◌∷◌, ◌↔◌, ℕ, List, [], All, IsTrue, IfOk, IfSome, OnOk, length};
 ghost use Rattle.weighted_relations.specs.Least.{BytesBelow};
 ghost use Rattle.weighted_relations.specs.Graphs.{label as written};
 ghost use Rattle.least_path.specs.Texts.{texts, text_of, IsMade, Grows};
@@ -100,12 +100,13 @@ impl Outputs {
         is_below(&self.letters, a, b)
     }
 
-    /// The labels of an output. There is room for so many from the beginning.
-    pub fn labels(&self, alloc: Global, number: usize, room: usize) -> Result<Vec<u16>, AllocError>
-        requires { number < length self.now }
+    /// The bytes of an output whose labels are no marks. There is room for so many from the beginning.
+    pub fn bytes(&self, alloc: Global, number: usize, room: usize) -> Result<Vec<u8>, AllocError>
+        requires known { number < length self.now }
+        requires small { All (λ n. n < 256) (text_of self.now number) }
         ensures { IfOk result (λ v. v.items ≡ text_of self.now number) }
     {
-        labels(alloc, &self.letters, number, room)
+        bytes(alloc, &self.letters, number, room)
     }
 }
 
@@ -199,24 +200,25 @@ fn decide(left: u16, right: u16, below: bool) -> bool
     if left != right { left < right } else { below }
 }
 
-/// The labels of an output. There is room for so many from the beginning.
-fn labels(
+/// The bytes of an output whose labels are no marks. There is room for so many from the beginning.
+fn bytes(
     alloc: Global,
     letters: &[Letter],
     number: usize,
     room: usize,
-) -> Result<Vec<u16>, AllocError>
+) -> Result<Vec<u8>, AllocError>
     requires made { IsMade letters.now }
     requires number { number < length (texts letters.now) }
+    requires small { All (λ n. n < 256) (text_of (texts letters.now) number) }
     ensures { IfOk result (λ v. v.items ≡ text_of (texts letters.now) number) }
 {
-    let mut labels = Vec::with_capacity(alloc, room)?;
+    let mut bytes = Vec::with_capacity(alloc, room)?;
     let mut at = number;
     while at > 0 {
         let letter = letters[at - 1];
-        labels.push(letter.label)?;
+        bytes.push(letter.label as u8)?;
         at = letter.before;
     }
-    labels.reverse();
-    Ok(labels)
+    bytes.reverse();
+    Ok(bytes)
 }

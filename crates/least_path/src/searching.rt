@@ -4,7 +4,7 @@ ghost use Rattle.std.specs.Prelude.{IfOk, IfSome, OnErr, OnOk, option_map};
 ghost use Rattle.least_path.specs.Counting.{CallsForEach};
 ghost use Rattle.least_path.specs.Starting.{IsLeastFrom, IsStart, StopsAfter, WritesBytes};
 
-use crate::answers::{Least, bytes_of};
+use crate::answers::Least;
 use crate::expanding::expand;
 use crate::listing::least_by_lists;
 use crate::node::Node;
@@ -97,10 +97,9 @@ pub fn least_by_queue<X: Expander>(
     while let Some(entry) = search.next() {
         match *search.nodes.key(entry.node) {
             Node::End => {
-                let labels = search.outputs.labels(alloc, entry.output, entry.length)?;
                 return Ok(Some(Least {
                     weight: entry.weight,
-                    output: bytes_of(alloc, &labels)?,
+                    output: search.outputs.bytes(alloc, entry.output, entry.length)?,
                 }));
             }
             Node::At(state, tuple) => {

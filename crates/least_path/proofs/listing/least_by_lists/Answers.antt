@@ -170,21 +170,20 @@ found m cascades start sounds wf laws old taken runs none rest empty b best d h 
 found_bytes : (m : Machine) (cascades : List Cascaded) (start : Tuple) (w : ℕ) (y : List ℕ) → IsStart cascades start → WritesBytes cascades start → IsLeastFrom m cascades start (Some (w, y)) → All (λ n. n < 256) y
 found_bytes m cascades start w y s writes least = (let r = (least s.0 s.1).reads in All-weaker IsByte (λ n. n < 256) byte_small y (writes s.0 s.1 r.0 y w r.2))
 
-pub bytes_of-requires : goal.bytes_of-requires
-bytes_of-requires g c =
+pub bytes-requires-clause-small : goal.bytes-requires-clause-small
+bytes-requires-clause-small g c =
     let way = c.in-Some-best_end.way in
     let y = text_of c.loop-number.search.outputs c.in-Some-best_end.way.output in
     let cascades = g.X.Expander.cascades c.args.x.now in
     let least = found c.args.source.now cascades c.args.start.now (g.met.X.Expander.sound c.args.x.now c.requires.ready) c.loop-number.invariant.sound c.cascades_read_their_parts.ensures c.loop-number.search c.loop-number.taken c.loop-number.invariant.runs c.in_default.ensures.0 c.take.new.self c.in_default.ensures.1 way c.in-Some-best_end.ensures in
-    let text : y ≡ c.deref.result.now = sym c.in_ok-labels.ensures ∙ sym c.deref.ensures.value in
-    subst (All (λ n. n < 256)) text (found_bytes c.args.source.now cascades c.args.start.now way.weight y c.requires.start c.requires.bytes least)
+    found_bytes c.args.source.now cascades c.args.start.now way.weight y c.requires.start c.requires.bytes least
 
 pub returns-clause-least : goal.returns-clause-least
 returns-clause-least g c =
     let way = c.in-Some-best_end.way in
     let cascades = g.X.Expander.cascades c.args.x.now in
     let least = found c.args.source.now cascades c.args.start.now (g.met.X.Expander.sound c.args.x.now c.requires.ready) c.loop-number.invariant.sound c.cascades_read_their_parts.ensures c.loop-number.search c.loop-number.taken c.loop-number.invariant.runs c.in_default.ensures.0 c.take.new.self c.in_default.ensures.1 way c.in-Some-best_end.ensures in
-    let text : c.in_ok-bytes_of.field-0.items ≡ text_of c.loop-number.search.outputs c.in-Some-best_end.way.output = c.in_ok-bytes_of.ensures ∙ c.deref.ensures.value ∙ c.in_ok-labels.ensures in
+    let text : c.in_ok-bytes.field-0.items ≡ text_of c.loop-number.search.outputs c.in-Some-best_end.way.output = c.in_ok-bytes.ensures in
     subst (λ y. IsLeastFrom c.args.source.now (g.X.Expander.cascades c.args.x.now) c.args.start.now (Some (c.in-Some-best_end.way.weight, y))) (sym text) least
 
 pub returns-clause-calls : goal.returns-clause-calls

@@ -35,19 +35,18 @@ returns-clause-least g c = all_none c.args.source.now (g.X.Expander.cascades c.a
 pub key-requires : goal.key-requires
 key-requires g c = record { within = taken_within c.loop-entry.search c.next.new.self c.in-Some.entry c.in-Some.ensures }
 
-pub bytes_of-requires : goal.bytes_of-requires
-bytes_of-requires g c =
+pub bytes-requires-clause-small : goal.bytes-requires-clause-small
+bytes-requires-clause-small g c =
     let e = c.in-Some.entry in
     let at : get_or c.loop-entry.search.nodes c.in-Some.entry.node End ≡ End = taken_at c.loop-entry.search c.next.new.self c.in-Some.entry c.in-Some.ensures End (c.key.ensures.value ∙ ap Some c.in-End.is) in
     let bytes = all_bytes c.args.source.now (g.X.Expander.cascades c.args.x.now) c.args.start.now (g.met.X.Expander.sound c.args.x.now c.requires.ready) c.loop-entry.invariant.sound c.cascades_read_their_parts.ensures c.loop-entry.search c.loop-entry.invariant.runs c.next.new.self e c.in-Some.ensures c.requires.start c.requires.bytes at in
-    let text : text_of c.loop-entry.search.outputs c.in-Some.entry.output ≡ c.deref.result.now = ap (λ t. text_of t c.in-Some.entry.output) (sym c.in-Some.ensures.outputs) ∙ sym c.in_ok-labels-in-End.ensures ∙ sym c.deref.ensures.value in
-    subst (All (λ n. n < 256)) text bytes
+    subst (All (λ n. n < 256)) (ap (λ t. text_of t c.in-Some.entry.output) (sym c.in-Some.ensures.outputs)) bytes
 
 pub returns-in-End-clause-least : goal.returns-in-End-clause-least
 returns-in-End-clause-least g c =
     let at : get_or c.loop-entry.search.nodes c.in-Some.entry.node End ≡ End = taken_at c.loop-entry.search c.next.new.self c.in-Some.entry c.in-Some.ensures End (c.key.ensures.value ∙ ap Some c.in-End.is) in
     let found = all_found c.args.source.now (g.X.Expander.cascades c.args.x.now) c.args.start.now (g.met.X.Expander.sound c.args.x.now c.requires.ready) c.loop-entry.invariant.sound c.cascades_read_their_parts.ensures c.loop-entry.search c.loop-entry.invariant.runs c.next.new.self c.in-Some.entry c.in-Some.ensures at in
-    let text : c.in_ok-bytes_of-in-End.field-0.items ≡ text_of c.loop-entry.search.outputs c.in-Some.entry.output = c.in_ok-bytes_of-in-End.ensures ∙ c.deref.ensures.value ∙ c.in_ok-labels-in-End.ensures ∙ ap (λ t. text_of t c.in-Some.entry.output) c.in-Some.ensures.outputs in
+    let text : c.in_ok-bytes-in-End.field-0.items ≡ text_of c.loop-entry.search.outputs c.in-Some.entry.output = c.in_ok-bytes-in-End.ensures ∙ ap (λ t. text_of t c.in-Some.entry.output) c.in-Some.ensures.outputs in
     subst (λ y. IsLeastFrom c.args.source.now (g.X.Expander.cascades c.args.x.now) c.args.start.now (Some (c.in-Some.entry.weight, y))) (sym text) found
 
 pub expand-requires-clause-known : goal.expand-requires-clause-known
