@@ -1,17 +1,26 @@
 -- How many looks a search makes.
-use Rattle.std.proofs.Common.{◌≡◌, ◌≤◌, ◌+◌, ◌++◌, ◌∷◌, ◌∙◌, ℕ, List, [], Some, Option, None, Err, Result, IfOk, IfSome, length, arith, refl, subst, sym}
+use Rattle.std.proofs.Common.{◌≡◌, ◌≢◌, ◌≤◌, ◌+◌, ◌++◌, ◌∷◌, ◌∙◌, ℕ, suc, List, [], Some, Option, None, Ok, Err, Result, IfOk, IfSome, length, arith, refl, subst, sym, ap}
 use Rattle.least_path.specs.Counting.{CallsForEach, HasRisen, ReadsAtLeast}
-use Rattle.place_table.specs.Ways.{way_count}
+use Rattle.place_table.proofs.Order.{some_way, ways_length}
+use Rattle.place_table.specs.Ways.{way_count, ways}
+use Rattle.place_table.specs.declared.answers.Publish.TheVariants.{NoPlace as IsNowhere, Published as IsAt}
 use Rattle.place_words.specs.declared.view.Entry.{Entry}
-use Rattle.shared_cascade.specs.Callers.{log_of, looks_of, places_in}
-use Rattle.shared_cascade.specs.Counts.{all_ended, left_after, looks_in}
+use Rattle.shared_cascade.proofs.Counting.{Runs, all_passed, joined, quiet_publish, shown}
+use Rattle.shared_cascade.specs.Callers.{cascades_in, log_of, looks_of, places_in}
+use Rattle.shared_cascade.specs.Counts.{AreWhole, all_ended, left_after, looks_in}
+use Rattle.shared_cascade.specs.Episodes.{Episode, Episodes, Missed}
+use Rattle.shared_cascade.specs.declared.tallies.Outcome.{Outcome}
+use Rattle.shared_cascade.specs.declared.tallies.Outcome.TheVariants.{NoPlace, Published, Shown, Wide}
+use Rattle.state_tuples.specs.Cascades.{Cascaded}
 use Rattle.shared_cascade.specs.Hands.{IsStill}
 use Rattle.shared_cascade.specs.declared.callers.Caller.{Caller}
 use Rattle.shared_cascade.specs.declared.hands.Hand.{Hand}
 use Rattle.shared_cascade.specs.declared.shared.Shared.{Shared}
 use Rattle.weighted_relations.specs.Machines.{Machine, Reads}
 use Rattle.weighted_relations.specs.Relations.{Is, IsInput, Relation, Same}
-use Rattle.normaliser.specs.Lines.{IsSearched}
+use Rattle.normaliser.specs.Lines.{Answer, Classified, IsSearched, empty, found, long_line, no_path, nul_byte}
+use Rattle.normaliser.specs.Words.{Words}
+use Rattle.normaliser.specs.Words as words
 use Rattle.normaliser.specs.Parts.{IsOutput, IsUnsearched}
 use Rattle.normaliser.specs.Searches.{Did, HadMemory, LooksThrough, Searched}
 use Rattle.normaliser.specs.declared.faults.LineFault.{LineFault}
@@ -70,3 +79,42 @@ not_unsearched line Memory h searched = h
 -- no reading is none
 pub not_read : (R : Relation) (line : List ℕ) → IsOutput R (λ x. x ≡ line) None → IsInput R line → ⊥
 not_read R line none input = none line input.0 input.1 refl input.2
+
+-- each episode makes a look
+module _ (cs : List Cascaded) (n : ℕ) (some : 1 ≤ n) where
+  missed_looks : (key : List ℕ) (es : List Entry) → Missed n key es → Runs (way_count n) 0 es 0 1
+  missed_looks key es h = all_passed (way_count n) 0 key (ways key n) _ es h.2.passed (some_way key n some) (let count = ways_length key n (way_count n) in omega (arith, count))
+
+  episode_looks : (key : List ℕ) (o : Outcome) (es : List Entry) → Episode cs n key o es → Runs (way_count n) 0 es 0 1
+  episode_looks key Shown es h = shown (way_count n) key (ways key n) h.0 h.1 es (ways_length key n (way_count n)) h.2
+  episode_looks key Published es h = subst (λ l. Runs (way_count n) 0 l 0 1) (sym h.4) (joined (way_count n) 0 h.0 h.1 (missed_looks key h.0 h.2) (quiet_publish (way_count n) 0 h.3.0 (ways key n) (IsAt h.3.3.0) h.1 h.3.3.1))
+  episode_looks key NoPlace es h = subst (λ l. Runs (way_count n) 0 l 0 1) (sym h.4) (joined (way_count n) 0 h.0 h.1 (missed_looks key h.0 h.2) (quiet_publish (way_count n) 0 h.3.0 (ways key n) (IsNowhere h.3.3.0 h.3.3.1) h.1 h.3.3.2))
+  episode_looks key Wide es h = missed_looks key es h.0
+
+  episodes_look : (os : List Outcome) (es : List Entry) → Episodes cs n os es → Runs (way_count n) 0 es 0 (length os)
+  episodes_look [] es h = subst (λ l. Runs (way_count n) 0 l 0 0) (sym h) (record { left = refl; ended = refl })
+  episodes_look (o ∷ os) es h =
+      let all = joined (way_count n) 0 h.1 h.2 (episode_looks h.0 o h.1 h.3) (episodes_look os h.2 h.4) in
+      subst (λ l. Runs (way_count n) 0 l 0 (suc (length os))) (sym h.5) (subst (Runs (way_count n) 0 (h.1 ++ h.2) 0) (let one : 1 + length os ≡ suc (length os) = omega arith in one) all)
+
+-- what came into the log has as many looks as it came to
+pub searched_looks : (s : Shared) (c d : Caller) → AreWhole (way_count (places_in s)) (log_of c) → (h : Searched s c d) → looks_of s d ≡ looks_of s c + length h.outcomes
+searched_looks s c d whole h =
+    let n = way_count (places_in s) in
+    let all = joined n 0 (log_of c) h.entries (record { left = whole; ended = refl }) (episodes_look (cascades_in s) (places_in s) s.table.words.sized.2 h.outcomes h.entries h.episodes) in
+    subst (λ l. looks_in n l ≡ looks_of s c + length h.outcomes) (sym h.log) all.ended
+
+-- a line that is searched, and not refused as without a path, has one
+pub classified_input : (C : Relation) (line : List ℕ) (a : Answer) → Classified C line a → IsSearched line → a ≢ Err NoPath → IsInput C line
+classified_input C line a (empty none) s other = absurd (let some = s.some in let e = ap length none in omega (arith, some, e))
+classified_input C line a (nul_byte at z) s other = absurd (s.no_zero at z.zero)
+classified_input C line a (long_line z long) s other = absurd (let short = s.short in omega (arith, long, short))
+classified_input C line a (no_path again none) s other = absurd (other refl)
+classified_input C line a (found y h) s other = let r = h.least.reads in (y, h.weight, subst (λ x. C x y h.weight) r.1 r.2)
+
+-- so it is of what it says
+pub words_input : (C V : Relation) (line : List ℕ) (a : Answer) → Words C V line a → IsSearched line → a ≢ Err NoPath → IsInput C line
+words_input C V line a (words.empty none) s other = absurd (let some = s.some in let e = ap length none in omega (arith, some, e))
+words_input C V line a (words.unclassified fault h) s other = classified_input C line (Err fault) h s other
+words_input C V line a (words.not_tokens y n h whole none) s other = classified_input C line (Ok y) (found y h) s (λ e. absurd (let z : Ok y ≡ Err NoPath = e in cc))
+words_input C V line a (words.said y tokens answer h text say) s other = classified_input C line (Ok y) (found y h) s (λ e. absurd (let z : Ok y ≡ Err NoPath = e in cc))

@@ -1,6 +1,6 @@
 -- A look that finds its key, from the knock to the leave.
-use Rattle.std.specs.Prelude.{◌≡◌, ◌≢◌, ◌≤◌, ◌<◌, ℕ, ◌+◌, List, [], ◌∷◌, ◌++◌, Option, All, Contains, filter, length, nat_eq, true}
-use Rattle.std.proofs.Common.{refl, sym, ◌∙◌, ap, subst, arith, inl, inr}
+use Rattle.std.specs.Prelude.{◌≡◌, ◌<◌, ℕ, ◌+◌, List, [], ◌∷◌, ◌++◌, Option, Contains, filter, length, nat_eq, true}
+use Rattle.std.proofs.Common.{refl, sym, ◌∙◌, ap, subst, arith}
 use Rattle.std.proofs.lemmas.List.Sorted.{length_permutation}
 use Rattle.place_words.specs.declared.view.Entry.{Entry}
 use Rattle.place_words.specs.declared.view.Entry.TheVariants.{Leave}
@@ -12,7 +12,7 @@ use Rattle.place_words.specs.Seats.{IsSeatOf, mode_of, view_of}
 use Rattle.place_words.specs.Steps.{left}
 use Rattle.place_table.specs.declared.answers.Find.TheVariants.{Holding, Absent}
 use Rattle.place_table.specs.declared.answers.Found.{Found}
-use Rattle.place_table.specs.Entries.{logged, reads_in, reads_of, seen_from}
+use Rattle.place_table.specs.Entries.{logged, reads_of, seen_from}
 use Rattle.place_table.specs.Looks.{Finds, ShownLook}
 use Rattle.place_table.specs.Tables.{words_of}
 use Rattle.place_table.specs.Ways.{way_count, ways}
@@ -22,7 +22,7 @@ use Rattle.place_table.proofs.Order.{some_way, ways_length}
 use Rattle.state_tuples.specs.declared.tuples.Tuple.{Tuple}
 use Rattle.state_tuples.specs.declared.tuples.TupleArc.{TupleArc}
 use Rattle.state_tuples.specs.Calls.{HaveOwnNumbers, IsKnown}
-use Rattle.state_tuples.specs.Cascades.{Cascaded, IsOf, IsSound, end_of, moves_of}
+use Rattle.state_tuples.specs.Cascades.{Cascaded, IsOf, end_of, moves_of}
 use Rattle.state_tuples.specs.Codes.{key}
 use Rattle.state_tuples.specs.Orders.{Ordered, moves_on}
 use Rattle.state_tuples.proofs.CodedExpansions.{ordered_kept}
@@ -31,7 +31,7 @@ use Rattle.shared_cascade.specs.declared.facts.Grammars.{Grammars}
 use Rattle.shared_cascade.specs.declared.shared.Shared.{Shared}
 use Rattle.shared_cascade.specs.declared.tallies.Outcome.TheVariants.{Shown}
 use Rattle.shared_cascade.specs.Callers.{FoundFor, HasLooked, IsAtRest, IsReady, StaysAt, cascades_in, grammars_of, log_before, places_in}
-use Rattle.shared_cascade.specs.Episodes.{Episode, Missed}
+use Rattle.shared_cascade.specs.Episodes.{Missed}
 use Rattle.shared_cascade.specs.Grammars.{HaveNumbers, cascades_of}
 use Rattle.shared_cascade.specs.Hands.{HadNoRoom}
 use Rattle.shared_cascade.specs.Held.{OfOne, read_on}

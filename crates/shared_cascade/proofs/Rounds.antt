@@ -1,5 +1,5 @@
 -- A sweep, place by place and round by round.
-use Rattle.std.specs.Prelude.{None, ◌≡◌, ◌≢◌, Bool, true, false, ℕ, suc, ◌+◌, List, [], ◌∷◌, ◌++◌, cond, length, nat_eq}
+use Rattle.std.specs.Prelude.{None, ◌≡◌, ◌≢◌, Bool, true, false, ℕ, zero, suc, ◌+◌, List, [], ◌∷◌, ◌++◌, cond, length, nat_eq}
 use Rattle.std.proofs.Common.{refl, sym, ◌∙◌, ap, subst, arith, append_assoc}
 use Rattle.std.proofs.lemmas.Bool.{ne_eqb}
 use Rattle.std.proofs.lemmas.List.{append-nil}
@@ -27,7 +27,7 @@ empties_more p (x ∷ ws) w =
     ap (λ l. Empty p x ∷ l) (empties_more (p + 1) ws w)
     ∙ ap (λ (q : ℕ). Empty p x ∷ (empties (p + 1) ws ++ Empty q w ∷ [])) (let e : p + 1 + length ws ≡ p + suc (length ws) = omega arith in e)
 
-done_append : (a b : List Entry) → done_in (a ++ b) ≡ done_in a + done_in b
+pub done_append : (a b : List Entry) → done_in (a ++ b) ≡ done_in a + done_in b
 done_append [] b = (let e : done_in b ≡ 0 + done_in b = omega arith in e)
 done_append (Empty p w ∷ a) b = (let e = done_append a b in omega arith)
 done_append (Knock p w ∷ a) b = done_append a b
@@ -38,7 +38,7 @@ done_append (TakeShown p w ∷ a) b = done_append a b
 done_append (Write p i w ∷ a) b = done_append a b
 done_append (Show p w ∷ a) b = done_append a b
 
-was_append : (a b : List Entry) → was_in (a ++ b) ≡ was_in a + was_in b
+pub was_append : (a b : List Entry) → was_in (a ++ b) ≡ was_in a + was_in b
 was_append [] b = (let e : was_in b ≡ 0 + was_in b = omega arith in e)
 was_append (Empty p w ∷ a) b = (let e = was_append a b in omega arith)
 was_append (Knock p w ∷ a) b = was_append a b
@@ -116,3 +116,10 @@ place_more s c d e ws p w old mid new count f g =
     let is : empties 0 ws ++ Empty p w ∷ [] ≡ empties 0 (ws ++ w ∷ []) =
     ap (λ (q : ℕ). empties 0 ws ++ Empty q w ∷ []) (let e : p ≡ 0 + length ws = omega arith in e) ∙ sym (empties_more 0 ws w) in
     subst (λ l. SweptBy s c e l old new) is (then s c d e (empties 0 ws) (Empty p w ∷ []) old mid new f g)
+
+-- rounds, and then more of them
+pub rounds_append : (n k m : ℕ) (a b : List Entry) → AreRounds n k a → AreRounds n m b → AreRounds n (k + m) (a ++ b)
+rounds_append n k zero a b f g = subst (AreRounds n (k + 0)) (sym (append-nil a) ∙ ap (λ l. a ++ l) (sym g)) (subst (λ j. AreRounds n j a) (let e : k ≡ k + 0 = omega arith in e) f)
+rounds_append n k (suc m) a b f (c, d, more, last, is) =
+    subst (λ j. AreRounds n j (a ++ b)) (let e : suc (k + m) ≡ k + suc m = omega arith in e)
+    (a ++ c, d, rounds_append n k m a c f more, last, ap (λ l. a ++ l) is ∙ sym (append_assoc a c d))

@@ -1,8 +1,7 @@
 -- What is known of the code of a place where a caller stays and reads.
-use Rattle.std.specs.Prelude.{◌≡◌, ◌≤◌, ℕ, List, Option, All, Contains, length}
+use Rattle.std.specs.Prelude.{◌≡◌, ◌≤◌, ℕ, List, Option, All, length}
 use Rattle.place_words.specs.declared.words.Seat.{Seat}
 use Rattle.place_words.specs.declared.words.Words.{Words}
-use Rattle.place_words.specs.declared.view.Entry.{Entry}
 use Rattle.place_words.specs.declared.view.Read.{Read}
 use Rattle.place_words.specs.declared.view.View.{View}
 use Rattle.place_words.specs.Places.{Agrees}

@@ -1,5 +1,5 @@
 -- A caller's tally, and the part of its log that it is of.
-use Rattle.std.specs.Prelude.{◌≡◌, ◌≢◌, ◌⊎◌, ℕ, List, [], ◌∷◌, ◌++◌, Option, Some, None}
+use Rattle.std.specs.Prelude.{◌≡◌, ◌⊎◌, ℕ, List, [], ◌∷◌, ◌++◌, Option, Some, None}
 use Rattle.place_words.specs.declared.view.Entry.{Entry}
 use Rattle.place_words.specs.declared.view.Entry.TheVariants.{Empty}
 use Rattle.state_tuples.specs.Cascades.{Cascaded}

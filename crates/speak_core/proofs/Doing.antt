@@ -1,11 +1,15 @@
 -- From what fits a plan to what its job does, and what work on lines leaves of its devices.
-use Rattle.std.proofs.Common.{◌≡◌, ◌*◌, ℕ, List, [], ◌∷◌, None, Some, Ok, Err, Result, Bool, true, length, inl, inr, IfSome, IfOk, IfErr, refl, sym, ap, ◌∙◌, subst, Vec, Global, arith}
+use Rattle.std.proofs.Common.{◌≡◌, ◌*◌, ℕ, List, [], ◌∷◌, None, Some, Ok, Err, Result, Bool, true, false, length, inl, inr, IfSome, IfOk, IfErr, refl, sym, ap, ◌∙◌, subst, Vec, Global, arith}
 use Rattle.std.proofs.KnownBytes.{Appends-nil}
 use Rattle.std.specs.Io.KnownBytes.{Appends}
 use Rattle.std.specs.declared.option.Option.{Option}
 use Rattle.norm_base.specs.Counts.{Rose}
 use Rattle.norm_base.specs.Files.{Files}
 use Rattle.normaliser.specs.Lines.{Answer, Saying}
+use Rattle.normaliser.specs.declared.normalisers.Normaliser.{Normaliser}
+use Rattle.shared_cascade.specs.declared.callers.Caller.{Caller}
+use Rattle.speak_words.specs.declared.asked.Settings.{Settings}
+use Rattle.speak_core.specs.Left.{Leaves}
 use Rattle.speak_words.specs.Asked.{Job, check, classify, sample, speak}
 use Rattle.text_lines.specs.Lines.{lines}
 use Rattle.speak_core.specs.Accepted.{JobAsks, OrText}
@@ -40,24 +44,30 @@ said_nothing : (P Q : Saying) (answers : List Answer) → AllSaid P [] answers �
 said_nothing P Q [] h = tt
 said_nothing P Q (a ∷ answers) h = absurd h
 
+-- callers that are left of lines that say the same
+leaves_alike : (P Q : Saying) → ((line : List ℕ) (a : Answer) → P line a → Q line a) → (n : Normaliser) (s : Settings) (lines : List (List ℕ)) (callers : List Caller) (err err' : Option (List ℕ)) → Leaves P n s lines callers err err' → Leaves Q n s lines callers err err'
+leaves_alike P Q f n s lines callers err err' h = record { ready = h.ready; count = h.count; places = h.places; answers = h.answers; said = all_said_to P Q f lines h.answers h.said; tallies = h.tallies; tallied = h.tallied; swept = h.swept; told = h.told; run = h.run }
+
 pub input_speaks : (setup : List ℕ) (plan : Plan) (w : Work) → InputBy plan w → Does (speak setup) plan w
 input_speaks setup plan (Input s) h = record {
-  by_plan = λ input answers. all_said_to (says_of s.speaker) (saying_of plan) (λ line a. (h line a).0) (lines input) answers;
-  by_work = λ input answers. all_said_to (saying_of plan) (says_of s.speaker) (λ line a. (h line a).1) (lines input) answers;
+  by_plan = λ input answers. all_said_to (says_of s.speaker) (saying_of plan) (λ line a. (h.says line a).0) (lines input) answers;
+  by_work = λ input answers. all_said_to (saying_of plan) (says_of s.speaker) (λ line a. (h.says line a).1) (lines input) answers;
   text = λ answers. refl;
   lines = λ input. refl;
   reports = λ report. refl;
+  leaves = λ settings input callers err err' left. record { of_lines = λ handled. (s.speaker.normaliser, h.of_plan, leaves_alike (says_of s.speaker) (saying_of plan) (λ line a. (h.says line a).0) s.speaker.normaliser settings (lines input) callers err err' left); of_none = λ none. absurd (let both : true ≡ false = none in cc) };
 }
 input_speaks setup plan (Checked text) h = absurd h
 input_speaks setup plan (Sampled s) h = absurd h
 
 pub input_classifies : (setup : List ℕ) (plan : Plan) (w : Work) → InputBy plan w → Does (classify setup) plan w
 input_classifies setup plan (Input s) h = record {
-  by_plan = λ input answers. all_said_to (says_of s.speaker) (saying_of plan) (λ line a. (h line a).0) (lines input) answers;
-  by_work = λ input answers. all_said_to (saying_of plan) (says_of s.speaker) (λ line a. (h line a).1) (lines input) answers;
+  by_plan = λ input answers. all_said_to (says_of s.speaker) (saying_of plan) (λ line a. (h.says line a).0) (lines input) answers;
+  by_work = λ input answers. all_said_to (saying_of plan) (says_of s.speaker) (λ line a. (h.says line a).1) (lines input) answers;
   text = λ answers. refl;
   lines = λ input. refl;
   reports = λ report. refl;
+  leaves = λ settings input callers err err' left. record { of_lines = λ handled. (s.speaker.normaliser, h.of_plan, leaves_alike (says_of s.speaker) (saying_of plan) (λ line a. (h.says line a).0) s.speaker.normaliser settings (lines input) callers err err' left); of_none = λ none. absurd (let both : true ≡ false = none in cc) };
 }
 input_classifies setup plan (Checked text) h = absurd h
 input_classifies setup plan (Sampled s) h = absurd h
@@ -70,6 +80,7 @@ rules_checked setup plan (Checked text) h = record {
   text = λ answers. h;
   lines = λ input. refl;
   reports = λ report. refl;
+  leaves = λ settings input callers err err' left. record { of_lines = λ handled. absurd (let both : false ≡ true = handled in cc); of_none = λ none. left };
 }
 rules_checked setup plan (Sampled s) h = absurd h
 
@@ -79,11 +90,15 @@ sample_sampled count start plan (Checked text) h = absurd h
 sample_sampled count start plan (Sampled s) h =
     let same : sample_lines s.count s.start ≡ sample_lines count start = ap (λ n. sample_lines n s.start) h.1 ∙ ap (λ x. sample_lines count x) h.2 in
     record {
-      by_plan = λ input answers said. subst (λ l. AllSaid (saying_of plan) l answers) same (all_said_to (says_of s.loaded.speaker) (saying_of plan) (λ line a. (h.0 line a).0) (sample_lines s.count s.start) answers said);
-      by_work = λ input answers said. subst (λ l. AllSaid (says_of s.loaded.speaker) l answers) (sym same) (all_said_to (saying_of plan) (says_of s.loaded.speaker) (λ line a. (h.0 line a).1) (sample_lines count start) answers said);
+      by_plan = λ input answers said. subst (λ l. AllSaid (saying_of plan) l answers) same (all_said_to (says_of s.loaded.speaker) (saying_of plan) (λ line a. (h.0.says line a).0) (sample_lines s.count s.start) answers said);
+      by_work = λ input answers said. subst (λ l. AllSaid (says_of s.loaded.speaker) l answers) (sym same) (all_said_to (saying_of plan) (says_of s.loaded.speaker) (λ line a. (h.0.says line a).1) (sample_lines count start) answers said);
       text = λ answers. refl;
       lines = λ input. same;
       reports = λ report. refl;
+      leaves = λ settings input callers err err' left. record {
+        of_lines = λ handled. (s.loaded.speaker.normaliser, h.0.of_plan, subst (λ l. Leaves (saying_of plan) s.loaded.speaker.normaliser settings l callers err err') same (leaves_alike (says_of s.loaded.speaker) (saying_of plan) (λ line a. (h.0.says line a).0) s.loaded.speaker.normaliser settings (sample_lines s.count s.start) callers err err' left));
+        of_none = λ none. absurd (let both : true ≡ false = none in cc);
+      };
     }
 
 -- what is found for a job, by what fits its plan

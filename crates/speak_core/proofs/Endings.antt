@@ -1,5 +1,5 @@
 -- From the stop of a run to its status and to what is told of it.
-use Rattle.std.proofs.Common.{inl, inr, ◌≡◌, ◌⊎◌, ◌==◌, ℕ, ◌+◌, ◌≤◌, ◌^◌, List, [], None, Some, Ok, Err, Bool, true, false, IfSome, IfOk, IfErr, OnOk, IsSomeAnd, length, refl, sym, ap, ◌∙◌, subst, arith, if◌then◌else◌, String, Vec, Global}
+use Rattle.std.proofs.Common.{inl, inr, ◌≡◌, ◌⊎◌, ◌==◌, ℕ, ◌+◌, ◌≤◌, ◌^◌, List, [], None, Some, Ok, Err, Bool, true, false, IfSome, IfOk, IfErr, OnErr, OnOk, IsSomeAnd, length, refl, sym, ap, ◌∙◌, subst, arith, if◌then◌else◌, String, Vec, Global}
 use Rattle.std.specs.Prelude.{Result, Option}
 use Rattle.std.specs.Result.{IsErrAnd}
 use Rattle.norm_base.specs.Counts.{capped}
@@ -179,6 +179,16 @@ none_rose d err r counts f kept =
 pub at_end : (P : Type 0) (r : Result Bool Stop) → OnOk r P → Finished r → P
 at_end P r end f = subst (λ v. OnOk v P) f.is end
 
+-- what was left where the errors stood so, and nothing is told after that
+pub left_at : (T : Option (List ℕ) → Type 0) (mid end : Option (List ℕ)) (r : Result Bool Stop) → IfOk r (λ is_read. T mid) → IfOk r (λ is_read. end ≡ mid) → Finished r → T end
+left_at T mid end r left kept f = subst T (sym (subst (λ v. IfOk v (λ is_read. end ≡ mid)) f.is kept)) (subst (λ v. IfOk v (λ is_read. T mid)) f.is left)
+
+-- what holds of a run that stopped
+pub stopped_with : (P : Type 0) (r : Result Bool Stop) (n : ℕ) → IsEnd n r → 2 ≤ n → OnErr r P → P
+stopped_with P (Ok true) n end past h = absurd (omega (arith, end, past))
+stopped_with P (Ok false) n end past h = absurd (omega (arith, end, past))
+stopped_with P (Err s) n end past h = h
+
 -- words that are no job, of which a run also finds that memory is wanting
 pub words_end : (r : Result Bool Stop) (n : ℕ) → IsEnd n r → (r ≡ Err Words) ⊎ (r ≡ Err Memory) → (n ≡ 2) ⊎ (n ≡ 5)
 words_end r n end (inl is) = end_at r Words n end is
@@ -241,7 +251,7 @@ tells_last n old mid new spoke t is other told later lines = record {
 
 -- nothing was told of lines
 told_none : (old mid : Option (List ℕ)) → mid ≡ old → AppendsSome (Told spoke_nothing) old mid
-told_none old mid same = subst (λ m. AppendsSome (Told spoke_nothing) old m) (sym same) (some_none no_reporting [] [] old)
+told_none old mid same = subst (λ m. AppendsSome (Told spoke_nothing) old m) (sym same) (some_none no_reporting [] [] old refl)
 
 -- after a refusal nothing else stands in the errors
 pub told_words : (r : Result Bool Stop) (n : ℕ) (old mid new : SinkSeen) → IsEnd n r → IfErr r (λ s. TellsStop n mid new s) → n ≡ 2 → old.faults ≤ mid.faults → mid.held ≡ old.held → TellsLast old new spoke_nothing (text_of Words)

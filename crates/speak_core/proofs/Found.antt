@@ -4,10 +4,10 @@ use Rattle.std.proofs.lemmas.Bool.{cases_lt}
 use Rattle.std.specs.Prelude.{MatchResult}
 use Rattle.std.specs.declared.alloc.AllocError.{AllocError}
 use Rattle.norm_base.specs.Files.{Files, file_of}
-use Rattle.normaliser.specs.Loads.{IsFirstEmpty, NoneRewritesEmpty}
+use Rattle.normaliser.specs.Loads.{IsFirstEmpty, NoneRewritesEmpty, classifier_of, verbaliser_of}
 use Rattle.core_expressions.specs.declared.expressions.Expr.{Expr}
 use Rattle.weighted_relations.specs.Expressions.{Expression, Rel}
-use Rattle.weighted_relations.specs.Relations.{Cascade, Relation, Same}
+use Rattle.weighted_relations.specs.Relations.{Cascade, Same}
 use Rattle.speak_setup.specs.Setups.{SetupNames, SetupText, outcome_of}
 use Rattle.speak_setup.specs.declared.setup.SetupFault.{SetupFault}
 use Rattle.speak_setup.specs.declared.setup.SetupFault.TheVariants.{BadLine, Repeated, Missing, Memory as SetupMemory}
@@ -16,6 +16,7 @@ use Rattle.thrax_link.specs.Linking.{Linked, Outcome, refuses, exporting}
 use Rattle.speak_core.specs.Accepted.{ClassifierOf, RequestAsks, IsOnly, NamesAsk, OrText, PlanOf, RulesOf, VerbaliserOf, absent, all_rules, at_fault, has_both, linked, named, need_of, no_classifier, no_verbaliser, planned, read, rewrites_empty, unlinked, unplanned}
 use Rattle.speak_core.specs.Requests.{Request}
 use Rattle.speak_core.specs.Loaded.{Builds, Checks, ChecksBy, Finds, FindsPlanned, IsGrammarFile, IsSetupFile, SaySame, SpeaksBy, StopsAs, TellsFirstEmpty, TellsText, expressions_of}
+use Rattle.speak_core.specs.Parts.{says_of}
 use Rattle.speak_core.specs.Plans.{Plan, rules_of, says_in}
 use Rattle.speak_core.specs.Stops.{IsDeviceStop}
 use Rattle.speak_core.specs.Texts.{absent_text, empty_text, refusal_text, setup_text}
@@ -190,12 +191,18 @@ module _ (files : Files) (mode : Mode) (names : SetupNames) where
     checks_names (Err stop.TooLong) h = tt
 
 -- a normaliser of the rules of a plan
-pub built : (mode : Mode) (C V : Relation) (es fs cs vs : List Expression) → es ≡ cs → fs ≡ vs → Same C (Cascade Rel es) → Same V (Cascade Rel fs) → NoneRewritesEmpty (es ++ fs)
-    → SaySame (says_in mode C V) (says_in mode (Cascade Rel cs) (Cascade Rel vs)) × NoneRewritesEmpty (cs ++ vs)
-built mode C V es fs cs vs p q f g none = (
-  says_alike mode C (Cascade Rel cs) V (Cascade Rel vs) (subst (λ l. Same C (Cascade Rel l)) p f) (subst (λ l. Same V (Cascade Rel l)) q g),
-  subst (λ l. NoneRewritesEmpty (l ++ vs)) p (subst (λ l. NoneRewritesEmpty (es ++ l)) q none),
-)
+pub built : (plan : Plan) (loaded : Loaded) (es fs : List Expression) → loaded.speaker.mode ≡ plan.mode → es ≡ plan.classifier → fs ≡ plan.verbaliser → Same (classifier_of loaded.speaker.normaliser) (Cascade Rel es) → Same (verbaliser_of loaded.speaker.normaliser) (Cascade Rel fs) → NoneRewritesEmpty (es ++ fs)
+    → SpeaksBy plan loaded × NoneRewritesEmpty (rules_of plan)
+built plan loaded es fs m p q f g none =
+    let n = loaded.speaker.normaliser in
+    let c : Same (classifier_of n) (Cascade Rel plan.classifier) = subst (λ l. Same (classifier_of n) (Cascade Rel l)) p f in
+    let v : Same (verbaliser_of n) (Cascade Rel plan.verbaliser) = subst (λ l. Same (verbaliser_of n) (Cascade Rel l)) q g in (
+      record {
+        says = subst (λ k. SaySame (says_of loaded.speaker) (says_in k (Cascade Rel plan.classifier) (Cascade Rel plan.verbaliser))) m (says_alike loaded.speaker.mode (classifier_of n) (Cascade Rel plan.classifier) (verbaliser_of n) (Cascade Rel plan.verbaliser) c v);
+        of_plan = record { classifier = c; verbaliser = v };
+      },
+      subst (λ l. NoneRewritesEmpty (l ++ plan.verbaliser)) p (subst (λ l. NoneRewritesEmpty (es ++ l)) q none),
+    )
 
 -- the refusal of a rule of which a rewrite may read the empty text
 pub tells_empty : (names : List (List ℕ)) (es : List Expression) (n : ℕ) (rule : List ℕ) (t : Result (Vec ℕ Global) AllocError) (s : Stop) → MatchResult t (λ found. s ≡ stop.Refused found) (λ none. s ≡ stop.Memory) → IfOk t (λ v. v.items ≡ empty_text rule)

@@ -1,4 +1,5 @@
 pub mod Said
+pub mod Untold
 pub mod Tellings
 pub mod Whole
 pub mod Intaking
@@ -7,6 +8,9 @@ pub mod Sums
 pub mod Named
 pub mod Found
 pub mod Hearing
+pub mod Logging
+pub mod Batching
+pub mod Leaving
 pub mod RuleLines
 pub mod Doing
 pub mod Runs

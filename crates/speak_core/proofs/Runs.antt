@@ -1,5 +1,5 @@
 -- From the plan that was found to what a run owes.
-use Rattle.std.proofs.Common.{◌≡◌, ℕ, List, None, Some, Ok, Err, Bool, true, Result, inr, IfSome, IfOk, IfErr, IsSomeAnd, OnOk, [], false, refl, ap, sym, ◌∙◌, subst, String, Global, arith}
+use Rattle.std.proofs.Common.{◌≡◌, ℕ, List, None, Some, Ok, Err, Bool, true, Result, inr, length, IfSome, IfOk, IfErr, IsSomeAnd, OnOk, [], false, refl, ap, sym, ◌∙◌, subst, String, Global, arith}
 use Rattle.std.proofs.KnownBytes.{Appends-nil}
 use Rattle.std.specs.declared.option.Option.{Option}
 use Rattle.std.specs.Io.KnownBytes.{Appends, IsAtEnd}
@@ -15,6 +15,8 @@ use Rattle.speak_core.specs.Answers.{AllSaid, Tells}
 use Rattle.speak_words.specs.declared.asked.Settings.{Settings}
 use Rattle.speak_core.specs.Reports.{Reporting, reporting_of}
 use Rattle.speak_core.specs.Given.{GivesBatches, GivesInput}
+use Rattle.shared_cascade.specs.declared.callers.Caller.{Caller}
+use Rattle.speak_core.specs.Left.{JobLeaves, LeavesCallers}
 use Rattle.speak_core.specs.Requests.{job_in, settings_in}
 use Rattle.speak_core.specs.Devices.{Observed}
 use Rattle.speak_core.specs.Loaded.{Planned, StopsAs}
@@ -23,12 +25,12 @@ use Rattle.speak_core.specs.Outputs.{lines_for, out_text, reads_input, reports_f
 use Rattle.speak_core.specs.Parts.{AppendsOne, AppendsSome, Writes}
 use Rattle.speak_core.specs.Plans.{Plan, saying_of}
 use Rattle.speak_core.specs.Stops.{AllCounts, IsReadingStop, IsRefusalStop}
-use Rattle.speak_core.specs.Works.{Does, WorkCounts, work_lines, work_reads, work_reports, work_says, work_text}
+use Rattle.speak_core.specs.Works.{Does, WorkCounts, work_leaves, work_lines, work_reads, work_reports, work_says, work_text}
 use Rattle.speak_core.specs.declared.stop.Stop.{Stop}
 use Rattle.speak_core.specs.declared.stop.Stop.TheVariants as stop
 use Rattle.speak_core.specs.declared.works.Work.{Work}
 use Rattle.speak_core.proofs.Found.{stops_through}
-use Rattle.speak_core.proofs.Said.{some_none}
+use Rattle.speak_core.proofs.Said.{said_count, some_none}
 
 some_and : {X : Type 0} (o : Option X) (P Q : X → Type 0) → ((x : X) → P x → Q x) → IsSomeAnd o P → IsSomeAnd o Q
 some_and None P Q f h = h
@@ -122,6 +124,18 @@ module _ (words : List (String Global)) (job : Job) (is_job : Some job ≡ job_i
     run_speaks report wants known left d (Ok is_read) l h = all_spoken report wants known left d is_read l (written_of left (λ input. Writes (work_says w) (work_reports w report) (work_lines w input) (work_text w) d.before.out.held d.after.out.held d.before.err.held d.after.err.held) is_read h)
     run_speaks report wants known left d (Err s) l h = tt
 
+    -- the callers that the work leaves
+    pub run_leaves : (settings : Settings) → settings_in words ≡ settings → (callers : List Caller) (err err' : Option (List ℕ)) (known : Option Files) (left : Option (List ℕ)) (r : Result Bool Stop) → IfSome known (λ files. Planned (Does job) (JobAsks files job) w)
+        → IfSome left (λ input. OnOk r (work_leaves w settings input callers err err')) → IfOk r (λ is_read. IfSome known (λ files. IfSome left (λ input. LeavesCallers words files input callers err err')))
+    run_leaves settings wants callers err err' known left (Err s) l h = tt
+    run_leaves settings wants callers err err' None left (Ok is_read) l h = tt
+    run_leaves settings wants callers err err' (Some files) None (Ok is_read) l h = tt
+    run_leaves settings wants callers err err' (Some files) (Some input) (Ok is_read) l h = record {
+      plan = l.plan;
+      accepted = record { job = job; is_job = sym is_job; asks = l.is_only.found };
+      left = subst (λ s. JobLeaves job l.plan s input callers err err') (sym wants) (l.fits.leaves settings input callers err err' h);
+    }
+
     -- what was given of an input that the work reads, or doesn't
     pub run_gives : (out out' : Option (List ℕ)) (known : Option Files) (left left' : Option (List ℕ)) → work_reads w ≡ reads_input job → IfSome known (λ files. Planned (Does job) (JobAsks files job) w)
         → (work_reads w ≡ true → IfSome left (λ input. IsSomeAnd left' (λ now. (answers : List Answer) → AllSaid (work_says w) (work_lines w input) answers → GivesBatches answers input now out out'))) → (work_reads w ≡ false → left' ≡ left)
@@ -186,8 +200,11 @@ run_ends words job is_job reads now (Ok x) same end = of_words words job is_job 
 run_ends words job is_job reads now (Err s) same end = tt
 
 -- and how it is wanted
+pub found_settings : {A : Type 0} (f : A → Settings) (s : Settings) (o : Option A) (a : A) → o ≡ Some a → IfSome o (λ x. f x ≡ s) → s ≡ f a
+found_settings f s o a is e = sym (subst (λ q. IfSome q (λ x. f x ≡ s)) is e)
+
 pub found_report : {A : Type 0} (f : A → Settings) (s : Settings) (o : Option A) (a : A) → o ≡ Some a → IfSome o (λ x. f x ≡ s) → reporting_of s ≡ reporting_of (f a)
-found_report f s o a is e = let own : f a ≡ s = subst (λ q. IfSome q (λ x. f x ≡ s)) is e in ap reporting_of (sym own)
+found_report f s o a is e = ap reporting_of (found_settings f s o a is e)
 
 -- the job that was read
 pub found_job : {A : Type 0} (f : A → Job) (o : Option A) (a : A) {x : Option Job} → o ≡ Some a → option_map f o ≡ x → Some (f a) ≡ x
@@ -199,10 +216,14 @@ owes_nothing words None left old = tt
 owes_nothing words (Some files) None old = tt
 owes_nothing words (Some files) (Some input) old = λ output spoke owed. prefix_none old output
 
+owed_count : (words : List (String Global)) (files : Files) (input output : List ℕ) (spoke : Spoke) → Owed words files input output spoke → length spoke.answers ≡ length spoke.lines
+owed_count words files input output spoke (nothing none) = refl
+owed_count words files input output spoke (of_job plan answers accepted said) = said_count (saying_of plan) (lines_for accepted.job input) answers said
+
 pub tells_nothing : (words : List (String Global)) (known : Option Files) (left old : Option (List ℕ)) → IfSome known (λ files. IfSome left (λ input. (output : List ℕ) (spoke : Spoke) → Owed words files input output spoke → AppendsSome (Told spoke) old old))
 tells_nothing words None left old = tt
 tells_nothing words (Some files) None old = tt
-tells_nothing words (Some files) (Some input) old = λ output spoke owed. some_none spoke.report spoke.lines spoke.answers old
+tells_nothing words (Some files) (Some input) old = λ output spoke owed. some_none spoke.report spoke.lines spoke.answers old (owed_count words files input output spoke owed)
 
 -- nothing was given
 pub gives_nothing : (words : List (String Global)) (known : Option Files) (left old : Option (List ℕ)) → IfSome known (λ files. IfSome left (λ input. IsSomeAnd left (GivesInput words old old files input)))

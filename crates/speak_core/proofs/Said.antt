@@ -1,5 +1,5 @@
 -- What lines say: each says one thing, and more lines say more.
-use Rattle.std.proofs.Common.{◌≡◌, ℕ, ◌+◌, ◌*◌, suc, List, [], ◌∷◌, ◌++◌, Bool, true, ◌&&◌, length, map, refl, sym, ap, ◌∙◌, subst, append_assoc, append-nil, arith}
+use Rattle.std.proofs.Common.{◌≡◌, ℕ, ◌+◌, ◌*◌, suc, List, [], ◌∷◌, ◌++◌, Bool, true, ◌&&◌, length, refl, sym, ap, ◌∙◌, subst, append_assoc, append-nil, arith}
 use Rattle.std.proofs.KnownBytes.{Appends-nil, Appends-trans}
 use Rattle.std.proofs.lemmas.List.Folds.{list_all-append}
 use Rattle.std.specs.Io.KnownBytes.{Appends}
@@ -17,11 +17,12 @@ use Rattle.shared_cascade.specs.declared.sweeping.Swept.{Swept}
 use Rattle.shared_cascade.specs.declared.tallies.Tally.{Tally}
 use Rattle.speak_core.specs.Reports.{AllTallied, Reporting, batches_of, end_text, if_wanted, swept_sum, with_tallies, with_tally}
 use Rattle.speak_core.specs.Loaded.{SaySame, SaysOnce}
-use Rattle.speak_core.specs.Parts.{AppendsOne, AppendsSome, Speaks, TellsSome, says_of}
+use Rattle.speak_core.specs.Parts.{AppendsOne, AppendsSome, Speaks, SpeaksBy, TellsSome, says_of}
 use Rattle.speak_core.specs.Plans.{says_in}
 use Rattle.speak_core.specs.declared.requests.Mode.{Mode}
 use Rattle.speak_core.specs.declared.requests.Mode.TheVariants.{Classify, Speak}
 use Rattle.speak_core.specs.declared.speakers.Speaker.{Speaker}
+use Rattle.speak_core.proofs.Untold.{untold_of, untold_tallied}
 
 -- a line says one thing
 pub says_once : (mode : Mode) (C V : Relation) → SaysOnce (says_in mode C V)
@@ -49,25 +50,21 @@ told_append r n m (c ∷ a) b (t ∷ ts) us l e =
 
 -- tallies
 
-pub tallied_count : (xs : List (List ℕ)) (ts : List Tally) → AllTallied xs ts → length ts ≡ length xs
-tallied_count [] [] p = refl
-tallied_count [] (t ∷ ts) p = absurd p
-tallied_count (x ∷ xs) [] p = absurd p
-tallied_count (x ∷ xs) (t ∷ ts) p = ap suc (tallied_count xs ts p.1)
+pub tallied_count : (xs : List (List ℕ)) (answers : List Answer) (ts : List Tally) → AllTallied xs answers ts → length ts ≡ length xs
+tallied_count [] [] [] p = refl
+tallied_count [] [] (t ∷ ts) p = absurd p
+tallied_count [] (a ∷ answers) ts p = absurd p
+tallied_count (x ∷ xs) [] ts p = absurd p
+tallied_count (x ∷ xs) (a ∷ answers) [] p = absurd p
+tallied_count (x ∷ xs) (a ∷ answers) (t ∷ ts) p = ap suc (tallied_count xs answers ts p.1)
 
-pub tallied_append : (xs ys : List (List ℕ)) (ts us : List Tally) → AllTallied xs ts → AllTallied ys us → AllTallied (xs ++ ys) (ts ++ us)
-tallied_append [] ys [] us p q = q
-tallied_append [] ys (t ∷ ts) us p q = absurd p
-tallied_append (x ∷ xs) ys [] us p q = absurd p
-tallied_append (x ∷ xs) ys (t ∷ ts) us p q = (p.0, tallied_append xs ys ts us p.1 q)
-
--- lines of which nothing was counted
-abbrev pub none_of : List (List ℕ) → List Tally
-none_of xs = map (λ x. no_tally) xs
-
-pub none_tallied : (xs : List (List ℕ)) → AllTallied xs (none_of xs)
-none_tallied [] = tt
-none_tallied (x ∷ xs) = (record { outcomes = []; counted = refl; unsearched = λ h. refl }, none_tallied xs)
+pub tallied_append : (xs ys : List (List ℕ)) (a b : List Answer) (ts us : List Tally) → AllTallied xs a ts → AllTallied ys b us → AllTallied (xs ++ ys) (a ++ b) (ts ++ us)
+tallied_append [] ys [] b [] us p q = q
+tallied_append [] ys [] b (t ∷ ts) us p q = absurd p
+tallied_append [] ys (c ∷ a) b ts us p q = absurd p
+tallied_append (x ∷ xs) ys [] b ts us p q = absurd p
+tallied_append (x ∷ xs) ys (c ∷ a) b [] us p q = absurd p
+tallied_append (x ∷ xs) ys (c ∷ a) b (t ∷ ts) us p q = (p.0, tallied_append xs ys a b ts us p.1 q)
 
 pub with_append : (t : Tally) (ts us : List Tally) → with_tallies t (ts ++ us) ≡ with_tallies (with_tallies t ts) us
 with_append t [] us = refl
@@ -136,26 +133,30 @@ module _ (P : Saying) where
     faults_of_first n xs ys old new front all p =
         let h = halves xs ys all p in
         let f = front h.front h.first in
-        let count = tallied_count xs f.tallies f.tallied ∙ sym (said_count xs h.front h.first) in
+        let count = tallied_count xs h.front f.tallies f.tallied ∙ sym (said_count xs h.front h.first) in
         record {
-          tallies = f.tallies ++ none_of ys;
-          tallied = tallied_append xs ys f.tallies (none_of ys) f.tallied (none_tallied ys);
-          front = subst (AppendsPrefix old new) (sym (ap (λ a. told r n a (f.tallies ++ none_of ys)) h.parts ∙ told_append r n (n + length h.front) h.front h.back f.tallies (none_of ys) count refl))
-              (prefix_first old new (told r n h.front f.tallies) (told r (n + length h.front) h.back (none_of ys)) f.front);
+          tallies = f.tallies ++ untold_of ys;
+          tallied = subst (λ a. AllTallied (xs ++ ys) a (f.tallies ++ untold_of ys)) (sym h.parts) (tallied_append xs ys h.front h.back f.tallies (untold_of ys) f.tallied (untold_tallied ys h.back (said_count ys h.back h.second)));
+          front = subst (AppendsPrefix old new) (sym (ap (λ a. told r n a (f.tallies ++ untold_of ys)) h.parts ∙ told_append r n (n + length h.front) h.front h.back f.tallies (untold_of ys) count refl))
+              (prefix_first old new (told r n h.front f.tallies) (told r (n + length h.front) h.back (untold_of ys)) f.front);
         }
 
     -- where nothing was told
-    pub tells_none : (n : ℕ) (xs : List (List ℕ)) (answers : List Answer) (old : Option (List ℕ)) → TellsSome r n xs answers old old
-    tells_none n xs answers old = record { tallies = none_of xs; tallied = none_tallied xs; front = prefix_none old (told r n answers (none_of xs)) }
+    pub tells_none : (n : ℕ) (xs : List (List ℕ)) (answers : List Answer) (old : Option (List ℕ)) → AllSaid P xs answers → TellsSome r n xs answers old old
+    tells_none n xs answers old said = record { tallies = untold_of xs; tallied = untold_tallied xs answers (said_count xs answers said); front = prefix_none old (told r n answers (untold_of xs)) }
 
     -- no lines were spoken
     pub speaks_none : (n : ℕ) (t : Tally) (out err : Option (List ℕ)) → Speaks P r n t t [] out out err err true
     speaks_none n t out err = record { answers = []; said = tt; tallies = []; tallied = tt; words = Appends-nil out; faults = Appends-nil err; total = refl; read = refl }
 
+    pub speaks_none_by : (Ran : List Tally → Type 0) → Ran [] → (n : ℕ) (t : Tally) (out err : Option (List ℕ)) → SpeaksBy Ran P r n t t [] out out err err true
+    unfolding speaks_none
+    speaks_none_by Ran ran n t out err = (speaks_none n t out err, ran)
+
   -- some lines, and then those after them
   module _ (w : Bool) (n m : ℕ) (t t' : Tally) (xs : List (List ℕ)) (out mid out' err emid err' : Option (List ℕ)) (r : Bool) (spoken : Speaks P w n t t' xs out mid err emid r) (next : m ≡ n + length xs) where
     counts : (a : List Answer) → AllSaid P xs a → length spoken.tallies ≡ length a
-    counts a p = tallied_count xs spoken.tallies spoken.tallied ∙ sym (said_count xs a p)
+    counts a p = tallied_count xs spoken.answers spoken.tallies spoken.tallied ∙ sym (said_count xs a p)
 
     after : (a : List Answer) → AllSaid P xs a → m ≡ n + length a
     after a p = let c = said_count xs a p in omega (arith, next, c)
@@ -163,7 +164,7 @@ module _ (P : Saying) where
     pub speaks_more : (t'' : Tally) (ys : List (List ℕ)) (q : Bool) → Speaks P w m t' t'' ys mid out' emid err' q → Speaks P w n t t'' (xs ++ ys) out out' err err' (r && q)
     speaks_more t'' ys q more = record {
       tallies = spoken.tallies ++ more.tallies;
-      tallied = tallied_append xs ys spoken.tallies more.tallies spoken.tallied more.tallied;
+      tallied = tallied_append xs ys spoken.answers more.answers spoken.tallies more.tallies spoken.tallied more.tallied;
       total = more.total ∙ ap (λ u. with_tallies u more.tallies) spoken.total ∙ sym (with_append t spoken.tallies more.tallies);
       answers = spoken.answers ++ more.answers;
       said = said_append xs ys spoken.answers more.answers spoken.said more.said;
@@ -172,6 +173,10 @@ module _ (P : Saying) where
           (Appends-trans err emid err' (told w n spoken.answers spoken.tallies) (told w m more.answers more.tallies) spoken.faults more.faults);
       read = ap (λ b. b && q) spoken.read ∙ ap (λ b. all_read spoken.answers && b) more.read ∙ sym (list_all-append is_read spoken.answers more.answers);
     }
+
+    pub speaks_more_by : (Ran More : List Tally → Type 0) → ((us : List Tally) → Ran us → More (spoken.tallies ++ us)) → (t'' : Tally) (ys : List (List ℕ)) (q : Bool) → SpeaksBy Ran P w m t' t'' ys mid out' emid err' q → SpeaksBy More P w n t t'' (xs ++ ys) out out' err err' (r && q)
+    unfolding speaks_more
+    speaks_more_by Ran More f t'' ys q more = (speaks_more t'' ys q more.0, f more.0.tallies more.1)
 
     -- a front of what all lines say is written
     pub words_then : SaysOnce P → (ys : List (List ℕ)) → ((a : List Answer) → AllSaid P ys a → AppendsPrefix mid out' (written a)) → (all : List Answer) → AllSaid P (xs ++ ys) all → AppendsPrefix out out' (written all)
@@ -185,24 +190,28 @@ module _ (P : Saying) where
         let h = halves xs ys all p in
         let ts = spoken.tallies in
         let f = front h.back h.second in
-        let wrote = subst (λ a. Appends err emid (told w n a ts)) (said_once once xs spoken.answers h.front spoken.said h.first) spoken.faults in
+        let same = said_once once xs spoken.answers h.front spoken.said h.first in
+        let wrote = subst (λ a. Appends err emid (told w n a ts)) same spoken.faults in
         record {
           tallies = ts ++ f.tallies;
-          tallied = tallied_append xs ys ts f.tallies spoken.tallied f.tallied;
+          tallied = subst (λ a. AllTallied (xs ++ ys) a (ts ++ f.tallies)) (sym h.parts) (tallied_append xs ys h.front h.back ts f.tallies (subst (λ a. AllTallied xs a ts) same spoken.tallied) f.tallied);
           front = subst (AppendsPrefix err err') (sym (ap (λ a. told w n a (ts ++ f.tallies)) h.parts ∙ told_append w n m h.front h.back ts f.tallies (counts h.front h.first) (after h.front h.first)))
               (prefix_then err emid err' (told w n h.front ts) (told w m h.back f.tallies) wrote f.front);
         }
 
 -- after the last line the total is told, and what was swept
-module _ (P : Saying) (w : Reporting) (t : Tally) (all : List (List ℕ)) (answers : List Answer) (said : AllSaid P all answers) (tallies : List Tally) (tallied : AllTallied all tallies) (total : t ≡ with_tallies no_tally tallies) (old mid new : Option (List ℕ)) (faults : Appends old mid (told w.wanted 1 answers tallies)) (n : ℕ) (counted : n ≡ length all) (swept : Swept) (sums : swept_sum swept ≡ w.beside * batches_of (length all)) where
+module _ (P : Saying) (w : Reporting) (t : Tally) (all : List (List ℕ)) (answers : List Answer) (said : AllSaid P all answers) (tallies : List Tally) (tallied : AllTallied all answers tallies) (total : t ≡ with_tallies no_tally tallies) (old mid new : Option (List ℕ)) (faults : Appends old mid (told w.wanted 1 answers tallies)) (n : ℕ) (counted : n ≡ length all) (swept : Swept) (sums : swept_sum swept ≡ w.beside * batches_of (length all)) where
   total_is : if_wanted w.wanted (end_text w.beside n t swept) ≡ if_wanted w.wanted (end_text w.beside (length answers) (with_tallies no_tally tallies) swept)
   total_is = ap (λ k. if_wanted w.wanted (end_text w.beside k t swept)) (counted ∙ sym (said_count P all answers said)) ∙ ap (λ u. if_wanted w.wanted (end_text w.beside (length answers) u swept)) total
+
+  pub told_by : Appends mid new (if_wanted w.wanted (end_text w.beside n t swept)) → Appends old new (told_all w answers tallies swept)
+  told_by last = subst (λ x. Appends old new (told w.wanted 1 answers tallies ++ x)) total_is (Appends-trans old mid new (told w.wanted 1 answers tallies) (if_wanted w.wanted (end_text w.beside n t swept)) faults last)
 
   pub told_whole : Appends mid new (if_wanted w.wanted (end_text w.beside n t swept)) → AppendsOne (Tells w all answers) old new
   told_whole last = record {
     text = told_all w answers tallies swept;
     is = record { tallies = tallies; tallied = tallied; swept = swept; sums = sums; is = refl };
-    whole = subst (λ x. Appends old new (told w.wanted 1 answers tallies ++ x)) total_is (Appends-trans old mid new (told w.wanted 1 answers tallies) (if_wanted w.wanted (end_text w.beside n t swept)) faults last);
+    whole = told_by last;
   }
 
   pub told_until : AppendsPrefix mid new (if_wanted w.wanted (end_text w.beside n t swept)) → AppendsSome (Tells w all answers) old new
@@ -229,9 +238,9 @@ some_front w all answers old new s = record {
 }
 
 -- where nothing was told
-pub some_none : (w : Reporting) (all : List (List ℕ)) (answers : List Answer) (old : Option (List ℕ)) → AppendsSome (Tells w all answers) old old
-some_none w all answers old = record {
-  text = told_all w answers (none_of all) (all_emptied w all);
-  is = record { tallies = none_of all; tallied = none_tallied all; swept = all_emptied w all; sums = emptied_sums w all; is = refl };
-  front = prefix_none old (told_all w answers (none_of all) (all_emptied w all));
+pub some_none : (w : Reporting) (all : List (List ℕ)) (answers : List Answer) (old : Option (List ℕ)) → length answers ≡ length all → AppendsSome (Tells w all answers) old old
+some_none w all answers old same = record {
+  text = told_all w answers (untold_of all) (all_emptied w all);
+  is = record { tallies = untold_of all; tallied = untold_tallied all answers same; swept = all_emptied w all; sums = emptied_sums w all; is = refl };
+  front = prefix_none old (told_all w answers (untold_of all) (all_emptied w all));
 }

@@ -13,15 +13,17 @@ use Rattle.speak_words.specs.Asked.{AreInBounds}
 use Rattle.speak_words.specs.declared.asked.Settings.{Settings}
 use Rattle.text_lines.specs.Lines.{lines}
 use Rattle.speak_core.specs.Answers.{AllSaid, written}
-use Rattle.speak_core.specs.Crews.{HasSwept}
+use Rattle.speak_core.specs.Crews.{HasRun, HasSwept, RunsAll}
+use Rattle.normaliser.specs.declared.normalisers.Normaliser.{Normaliser}
+use Rattle.speak_core.specs.declared.crews.Crew.{Crew}
 use Rattle.speak_core.specs.Given.{GaveAtMost, GivesBatches, first_lines}
 use Rattle.speak_core.specs.Intakes.{AreWhole, GaveWithin, Holds, IsIntake, line_feeds}
 use Rattle.speak_core.specs.Loaded.{SaysOnce}
-use Rattle.speak_core.specs.Parts.{Speaks, TellsSome}
+use Rattle.speak_core.specs.Parts.{Speaks, SpeaksBy, TellsSome}
 use Rattle.speak_core.specs.Reports.{batches_of, swept_sum}
 use Rattle.speak_core.specs.declared.intakes.Intake.{Intake}
 use Rattle.speak_core.proofs.Intaking.{within_grow}
-use Rattle.speak_core.proofs.Said.{Halves, faults_of_first, faults_then, halves, said_count, said_once, speaks_more, speaks_none, tells_none, words_of_first, words_then}
+use Rattle.speak_core.proofs.Said.{Halves, faults_of_first, faults_then, halves, said_count, said_once, speaks_more, speaks_more_by, speaks_none, speaks_none_by, tallied_count, tells_none, words_of_first, words_then}
 use Rattle.speak_core.proofs.Whole.{feeds_append, feeds_few, lines_few, whole_append, whole_none}
 
 -- whole batches were handled: their lines were spoken, and beside each of them places were swept
@@ -36,6 +38,11 @@ pub record SoFar (P : Saying) (w : Bool) (s : Settings) (v : Swept) (t t' : Tall
   pub speaks : Speaks P w 1 t t' (lines handled) out out' err err' is_read
   pub out_kept : o' ≡ o
   pub err_kept : e' ≡ e
+
+-- and the callers did what was told of the lines
+pub record Ran (P : Saying) (N : Normaliser) (c : Crew) (w : Bool) (s : Settings) (v : Swept) (t t' : Tally) (start left : Option (List ℕ)) (i : Intake) (count : ℕ) (is_read : Bool) (out out' err err' : Option (List ℕ)) (o o' e e' : ℕ) : Type 0 where
+  pub far : SoFar P w s v t t' start left i count is_read out out' err err' o o' e e'
+  pub run : HasRun N c far.speaks.tallies far.batches
 
 -- what stands in the sinks at an end, and what was given until then, of an input that is told
 pub record Ends (P : Saying) (w : Bool) (start left : Option (List ℕ)) (out out' err err' : Option (List ℕ)) : Type 0 where
@@ -60,6 +67,12 @@ so_far_none P w s v t start i count out err o e empty given none unswept = recor
   out_kept = refl;
   err_kept = refl;
 }
+
+pub ran_none : (P : Saying) (N : Normaliser) (c : Crew) (w : Bool) (s : Settings) (v : Swept) (t : Tally) (start : Option (List ℕ)) (i : Intake) (count : ℕ) (out err : Option (List ℕ)) (o e : ℕ) → i.bytes.items ≡ [] → i.given ≡ 0 → count ≡ 0 → swept_sum v ≡ 0 → HasRun N c [] 0 → Ran P N c w s v t t start start i count true out out err err o o e e
+unfolding so_far_none
+ran_none P N c w s v t start i count out err o e empty given none unswept run =
+    let x = speaks_none_by P w (λ ts. HasRun N c ts 0) run 1 t out err in
+    record { far = record (so_far_none P w s v t start i count out err o e empty given none unswept) { speaks = x.0 }; run = x.1 }
 
 -- an input that is told: these bytes were given, and this is left
 known : (start left : Option (List ℕ)) (bytes : List ℕ) (Q : List ℕ → Type 0) → Consumes start left bytes → ((input now : List ℕ) → left ≡ Some now → input ≡ bytes ++ now → Q input) → IfSome start Q
@@ -143,7 +156,7 @@ module _ (P : Saying) (w : Bool) (s : Settings) (v : Swept) (t t' : Tally) (star
   pub far_ends : SaysOnce P → (left' : Option (List ℕ)) → GaveWithin (1024 * (sofar.batches + 1)) start left' → Ends P w start left' out mid err emid
   far_ends once left' within = record {
     words = known start left (sofar.handled ++ i.bytes.items) _ sofar.holds.given (λ input now at is. all_words once mid emid input (i.bytes.items ++ now) (is ∙ append_assoc sofar.handled i.bytes.items now) (λ a p. prefix_none mid (written a)));
-    faults = known start left (sofar.handled ++ i.bytes.items) _ sofar.holds.given (λ input now at is. all_faults once mid emid input (i.bytes.items ++ now) (is ∙ append_assoc sofar.handled i.bytes.items now) (λ a p. prefix_none mid (written a)) (λ a p. tells_none P w (n + 1) (lines (i.bytes.items ++ now)) a emid));
+    faults = known start left (sofar.handled ++ i.bytes.items) _ sofar.holds.given (λ input now at is. all_faults once mid emid input (i.bytes.items ++ now) (is ∙ append_assoc sofar.handled i.bytes.items now) (λ a p. prefix_none mid (written a)) (λ a p. tells_none P w (n + 1) (lines (i.bytes.items ++ now)) a emid p));
     given = known_until start left left' (sofar.handled ++ i.bytes.items) (1024 * (sofar.batches + 1)) _ sofar.holds.given within (λ input now last at is bound. all_given once mid emid input (i.bytes.items ++ now) (is ∙ append_assoc sofar.handled i.bytes.items now) (λ a p. prefix_none mid (written a)) last bound);
   }
 
@@ -177,6 +190,18 @@ module _ (P : Saying) (w : Bool) (s : Settings) (v : Swept) (t t' : Tally) (star
       spoken_both : Speaks P w 1 t t'' (lines sofar.handled ++ lines text) out out' err err' both_read
       spoken_both = subst (Speaks P w 1 t t'' (lines sofar.handled ++ lines text) out out' err err') (sym read) (speaks_more P w 1 (n + 1) t t' (lines sofar.handled) out mid out' err emid err' r sofar.speaks next t'' (lines text) q spoken)
 
+      -- with what the callers did
+      module _ (N : Normaliser) (c c' : Crew) (run : HasRun N c sofar.speaks.tallies sofar.batches) (runs : RunsAll N c c' (n + 1) spoken.tallies) where
+        placed : length sofar.speaks.tallies ≡ n + 1 - 1
+        placed = (let a = tallied_count (lines sofar.handled) sofar.speaks.answers sofar.speaks.tallies sofar.speaks.tallied in let d = sofar.whole.number in let f = sofar.counted in omega (arith, a, d, f))
+
+        run_on : (us : List Tally) → RunsAll N c c' (n + 1) us × (length us ≡ length (lines text)) → HasRun N c' (sofar.speaks.tallies ++ us) (sofar.batches + batches_of (length (lines text)))
+        run_on us (ran, count) = subst (λ k. HasRun N c' (sofar.speaks.tallies ++ us) (sofar.batches + batches_of k)) count (ran sofar.speaks.tallies sofar.batches placed run)
+
+        pub both_by : SpeaksBy (λ ts. HasRun N c' ts (sofar.batches + batches_of (length (lines text)))) P w 1 t t'' (lines sofar.handled ++ lines text) out out' err err' both_read
+        both_by = subst (λ b. SpeaksBy (λ ts. HasRun N c' ts (sofar.batches + batches_of (length (lines text)))) P w 1 t t'' (lines sofar.handled ++ lines text) out out' err err' b) (sym read)
+            (speaks_more_by P w 1 (n + 1) t t' (lines sofar.handled) out mid out' err emid err' r sofar.speaks next (λ us. RunsAll N c c' (n + 1) us × (length us ≡ length (lines text))) _ run_on t'' (lines text) q (spoken, (runs, tallied_count (lines text) spoken.answers spoken.tallies spoken.tallied)))
+
       -- it was a whole batch
       pub so_far_more : (k : Intake) → k.bytes.items ≡ rest → k.given ≡ j.given → AreWhole 1024 text → SoFar P w s v' t t'' start left' k m both_read out out' err err' o o'' e e''
       so_far_more k left_over given one =
@@ -200,6 +225,13 @@ module _ (P : Saying) (w : Bool) (s : Settings) (v : Swept) (t t' : Tally) (star
             out_kept = kept.0 ∙ sofar.out_kept;
             err_kept = kept.1 ∙ sofar.err_kept;
           }
+
+      pub ran_more : (N : Normaliser) (c c' : Crew) → HasRun N c sofar.speaks.tallies sofar.batches → RunsAll N c c' (n + 1) spoken.tallies → (k : Intake) → k.bytes.items ≡ rest → k.given ≡ j.given → AreWhole 1024 text → Ran P N c' w s v' t t'' start left' k m both_read out out' err err' o o'' e e''
+      unfolding so_far_more
+      ran_more N c c' run runs k left_over given one =
+          let single : sofar.batches + batches_of (length (lines text)) ≡ sofar.batches + 1 = ap (λ c. sofar.batches + batches_of c) one.number in
+          let x = subst (λ l. SpeaksBy (λ ts. HasRun N c' ts (sofar.batches + 1)) P w 1 t t'' l out out' err err' both_read) (sym (sofar.whole.parts text)) (subst (λ b. SpeaksBy (λ ts. HasRun N c' ts b) P w 1 t t'' (lines sofar.handled ++ lines text) out out' err err' both_read) single (both_by N c c' run runs)) in
+          record { far = record (so_far_more k left_over given one) { speaks = x.0 }; run = x.1 }
 
       -- it was the last
       module _ (nothing : rest ≡ []) (end : IsAtEnd left') where
@@ -235,3 +267,12 @@ module _ (P : Saying) (w : Bool) (s : Settings) (v : Swept) (t t' : Tally) (star
             let apart : beside * (b + batches_of k) ≡ beside * b + beside * batches_of k = omega arith in
             of_whole (λ l. HasSwept s (length l) v')
             (on ∙ (ap (λ c. c + beside * batches_of k) sofar.swept ∙ (sym apart ∙ ap (λ c. beside * c) (sym (ap batches_of size ∙ number)))))
+
+        pub last_ran : (N : Normaliser) (c c' : Crew) → HasRun N c sofar.speaks.tallies sofar.batches → RunsAll N c c' (n + 1) spoken.tallies → IfSome start (λ input. SpeaksBy (λ ts. HasRun N c' ts (batches_of (length (lines input)))) P w 1 t t'' (lines input) out out' err err' both_read)
+        last_ran N c c' run runs =
+            let b = sofar.batches in
+            let k = length (lines text) in
+            let size : length (lines sofar.handled ++ lines text) ≡ 1024 * b + k = length-append (lines sofar.handled) (lines text) ∙ ap (λ c. c + k) sofar.whole.number in
+            let number : batches_of (1024 * b + k) ≡ b + batches_of k = omega arith in
+            of_whole (λ l. SpeaksBy (λ ts. HasRun N c' ts (batches_of (length l))) P w 1 t t'' l out out' err err' both_read)
+            (subst (λ m. SpeaksBy (λ ts. HasRun N c' ts m) P w 1 t t'' (lines sofar.handled ++ lines text) out out' err err' both_read) (sym (ap batches_of size ∙ number)) (both_by N c c' run runs))

@@ -19,11 +19,13 @@ use Rattle.shared_cascade.specs.declared.sweeping.Swept.{Swept}
 use Rattle.shared_cascade.specs.declared.tallies.Tally.{Tally}
 use Rattle.speak_core.specs.Reports.{AllTallied, Reporting, batches_of, end_text, if_wanted, reporting_of, swept_sum, with_tallies}
 use Rattle.speak_core.specs.declared.batches.Heard.{Heard}
-use Rattle.speak_core.specs.Crews.{HasSwept}
+use Rattle.speak_core.specs.Crews.{HasRun, HasSwept, RunsOn}
+use Rattle.speak_core.specs.declared.crews.Crew.{Crew}
+use Rattle.normaliser.specs.declared.normalisers.Normaliser.{Normaliser}
 use Rattle.speak_core.specs.Loaded.{SaysOnce}
 use Rattle.speak_words.specs.declared.asked.Settings.{Settings}
 use Rattle.speak_core.specs.Outputs.{said_of, sample_lines, summary_of}
-use Rattle.speak_core.specs.Parts.{AnswersFront, AppendsSome, Speaks, SumsUp, TellsFront, TellsSome, Writes, answer_of, lines_of, tally_of}
+use Rattle.speak_core.specs.Parts.{AnswersFront, AppendsSome, Speaks, SumsUp, SumsUpBy, TellsFront, TellsSome, Writes, answer_of, lines_of, tally_of}
 use Rattle.speak_core.proofs.Said.{faults_of_first, faults_then, said_append, said_count, said_once, tallied_append, tallied_count, tells_none, told_append, told_until, told_whole, with_append}
 use Rattle.speak_core.proofs.Tellings.{answers_few, batch_faults, faults_are, front_more, lines_are}
 
@@ -74,19 +76,27 @@ module _ (P : Saying) where
   sums_more : (w : Bool) (n m : ℕ) (t t' t'' : Tally) (xs ys : List (List ℕ)) (old mid new : Totals) (err emid err' : Option (List ℕ)) → SumsUp P w n t t' xs old mid err emid → m ≡ n + length xs → SumsUp P w m t' t'' ys mid new emid err' → SumsUp P w n t t'' (xs ++ ys) old new err err'
   sums_more w n m t t' t'' xs ys old mid new err emid err' s next u =
       let said = said_count P xs s.answers s.said in
-      let counts = tallied_count xs s.tallies s.tallied ∙ sym said in
+      let counts = tallied_count xs s.answers s.tallies s.tallied ∙ sym said in
       let after : m ≡ n + length s.answers = omega (arith, next, said) in
       record {
         answers = s.answers ++ u.answers;
         said = said_append P xs ys s.answers u.answers s.said u.said;
         tallies = s.tallies ++ u.tallies;
-        tallied = tallied_append xs ys s.tallies u.tallies s.tallied u.tallied;
+        tallied = tallied_append xs ys s.answers u.answers s.tallies u.tallies s.tallied u.tallied;
         total = u.total ∙ ap (λ x. with_tallies x u.tallies) s.total ∙ sym (with_append t s.tallies u.tallies);
         faults = subst (Appends err err') (sym (told_append w n m s.answers u.answers s.tallies u.tallies counts after)) (Appends-trans err emid err' (told w n s.answers s.tallies) (told w m u.answers u.tallies) s.faults u.faults);
         added = λ before is.
             u.added (before ++ map said_of s.answers) (s.added before is)
             ∙ ap totals_of (append_assoc before (map said_of s.answers) (map said_of u.answers) ∙ ap (λ l. before ++ l) (sym (map-append said_of s.answers u.answers)));
       }
+
+  sums_none_by : (Ran : List Tally → Type 0) → Ran [] → (w : Bool) (n : ℕ) (t : Tally) (old new : Totals) (err : Option (List ℕ)) → new ≡ old → SumsUpBy Ran P w n t t [] old new err err
+  unfolding sums_none
+  sums_none_by Ran ran w n t old new err same = (sums_none w n t old new err same, ran)
+
+  sums_more_by : (Ran More : List Tally → Type 0) (w : Bool) (n m : ℕ) (t t' t'' : Tally) (xs ys : List (List ℕ)) (old mid new : Totals) (err emid err' : Option (List ℕ)) (s : SumsUp P w n t t' xs old mid err emid) → ((us : List Tally) → Ran us → More (s.tallies ++ us)) → m ≡ n + length xs → SumsUpBy Ran P w m t' t'' ys mid new emid err' → SumsUpBy More P w n t t'' (xs ++ ys) old new err err'
+  unfolding sums_more
+  sums_more_by Ran More w n m t t' t'' xs ys old mid new err emid err' s f next u = (sums_more w n m t t' t'' xs ys old mid new err emid err' s next u.0, f u.0.tallies u.1)
 
   -- no more answers than lines of a batch
   pub few_answers : (batch : List (Vec ℕ Global)) (lines : List (Bor (List ℕ))) (answers : List (Heard)) (whole : Bool) → lines_of lines ≡ map (λ line. line.items) batch → AnswersFront P (lines_of lines) (map answer_of answers) (map tally_of answers) whole → length answers ≤ length batch
@@ -123,10 +133,15 @@ module _ (P : Saying) where
           said = subst (λ l. AllSaid P l (map answer_of heard)) (sym lines_same) of_all.said;
           added = added;
           tallies = map tally_of heard;
-          tallied = subst (λ l. AllTallied l (map tally_of heard)) (sym lines_same) of_all.tallied;
+          tallied = subst (λ l. AllTallied l (map answer_of heard) (map tally_of heard)) (sym lines_same) of_all.tallied;
           faults = subst (Appends err err') (faults_are P w first all heard words faults answered whole of_all t is_whole) told_all;
           total = counted;
         }
+
+    pub batch_sums_by : (Ran : List Tally → Type 0) → answered ≡ true → whole ≡ true → (old new : Totals) (err err' : Option (List ℕ)) (total total' : Tally) → Appends err err' faults → ((before : List Said) → old ≡ totals_of before → new ≡ totals_of (before ++ map said_of (map answer_of heard)))
+        → total' ≡ with_tallies total (map tally_of heard) → Ran (map tally_of heard) → SumsUpBy Ran P w first total total' all old new err err'
+    unfolding batch_sums
+    batch_sums_by Ran is_answered is_whole old new err err' total total' told_all added counted ran = (batch_sums is_answered is_whole old new err err' total total' told_all added counted, ran)
 
   -- the first lines of a sample were summed up, and the next one is made of this state
   pub record SummedTo (w : Bool) (t t' : Tally) (start done state : ℕ) (now : Totals) (err err' : Option (List ℕ)) (e e' : ℕ) : Type 0 where
@@ -134,12 +149,22 @@ module _ (P : Saying) where
     pub goes_on : state ≡ (sampled done start).state
     pub kept : e' ≡ e
 
+  -- and the callers did what was told of the lines
+  pub record SummedBy (N : Normaliser) (c : Crew) (w : Bool) (t t' : Tally) (start done state : ℕ) (now : Totals) (err err' : Option (List ℕ)) (e e' : ℕ) : Type 0 where
+    pub far : SummedTo w t t' start done state now err err' e e'
+    pub run : HasRun N c far.sums.tallies (batches_of done)
+
   pub summed_none : (w : Bool) (t : Tally) (start : ℕ) (now : Totals) (err : Option (List ℕ)) (e : ℕ) → now ≡ totals_of [] → SummedTo w t t start 0 start now err err e e
   summed_none w t start now err e is = record {
     sums = subst (λ l. SumsUp P w 1 t t l (totals_of []) now err err) (sym (sampled-none start)) (sums_none w 1 t (totals_of []) now err is);
     goes_on = sym (state-none start);
     kept = refl;
   }
+
+  pub summed_none_by : (N : Normaliser) (c : Crew) → HasRun N c [] 0 → (w : Bool) (t : Tally) (start : ℕ) (now : Totals) (err : Option (List ℕ)) (e : ℕ) → now ≡ totals_of [] → SummedBy N c w t t start 0 start now err err e e
+  summed_none_by N c run w t start now err e is =
+      let x = subst (λ l. SumsUpBy (λ ts. HasRun N c ts 0) P w 1 t t l (totals_of []) now err err) (sym (sampled-none start)) (sums_none_by (λ ts. HasRun N c ts 0) run w 1 t (totals_of []) now err is) in
+      record { far = record { sums = x.0; goes_on = sym (state-none start); kept = refl }; run = x.1 }
 
   module _ (w : Bool) (t t' : Tally) (start done state : ℕ) (now : Totals) (err emid : Option (List ℕ)) (e e' : ℕ) (sofar : SummedTo w t t' start done state now err emid e e') where
     abbrev first : List (List ℕ)
@@ -170,6 +195,14 @@ module _ (P : Saying) where
       kept = kept ∙ sofar.kept;
     }
 
+    pub summed_more_by : (N : Normaliser) (c c' : Crew) → HasRun N c sofar.sums.tallies (batches_of done) → (t'' : Tally) (size n next : ℕ) (batch : List (List ℕ)) (new : Totals) (err' : Option (List ℕ)) (e'' : ℕ) → batch ≡ (sampled size state).value → next ≡ (sampled size state).state → n ≡ done + 1
+        → SumsUpBy (RunsOn N c c' n) P w n t' t'' batch now new emid err' → e'' ≡ e' → batches_of (done + size) ≡ batches_of done + 1 → SummedBy N c' w t t'' start (done + size) next new err err' e e''
+    summed_more_by N c c' run t'' size n next batch new err' e'' lines goes_on numbered summed kept one =
+        let placed : length sofar.sums.tallies ≡ n - 1 = (let a = tallied_count first sofar.sums.answers sofar.sums.tallies sofar.sums.tallied in let k = length-sampled done start in omega (arith, a, k, numbered)) in
+        let both = sums_more_by (RunsOn N c c' n) (λ ts. HasRun N c' ts (batches_of (done + size))) w 1 n t t' t'' first batch (totals_of []) now new err emid err' sofar.sums (λ us runs. subst (HasRun N c' (sofar.sums.tallies ++ us)) (sym one) (runs sofar.sums.tallies (batches_of done) placed run)) (count_first n numbered) summed in
+        let x = subst (λ l. SumsUpBy (λ ts. HasRun N c' ts (batches_of (done + size))) P w 1 t t'' l (totals_of []) new err err') (ap (λ l. first ++ l) lines ∙ sym (lines_more size)) both in
+        record { far = record (summed_more t'' size n next batch new err' e'' lines goes_on numbered summed.0 kept) { sums = x.0 }; run = x.1 }
+
     -- where a batch is cut off, a front of all faults is written
     faults_more : SaysOnce P → (n : ℕ) → n ≡ done + 1 → (rest : ℕ) (err' : Option (List ℕ)) → ((a : List Answer) → AllSaid P (sampled rest state).value a → TellsSome w n (sampled rest state).value a emid err')
         → (all : List Answer) → AllSaid P (sampled (done + rest) start).value all → TellsSome w 1 (sampled (done + rest) start).value all err err'
@@ -194,9 +227,12 @@ module _ (P : Saying) where
     summed_front once count fits all said =
         let whole : count ≡ done + (count - done) = omega (arith, fits) in
         subst (λ k. TellsSome w 1 (sampled k start).value all err emid) (sym whole)
-        (faults_more once (done + 1) refl (count - done) emid (λ a p. tells_none P w (done + 1) (sampled (count - done) state).value a emid) all (subst (λ k. AllSaid P (sampled k start).value all) whole said))
+        (faults_more once (done + 1) refl (count - done) emid (λ a p. tells_none P w (done + 1) (sampled (count - done) state).value a emid p) all (subst (λ k. AllSaid P (sampled k start).value all) whole said))
 
     -- at the end all lines are summed up
+    pub summed_all_by : (N : Normaliser) (c : Crew) → HasRun N c sofar.sums.tallies (batches_of done) → (count : ℕ) → done ≡ count → SumsUpBy (λ ts. HasRun N c ts (batches_of count)) P w 1 t t' (sample_lines count start) (totals_of []) now err emid
+    summed_all_by N c run count end = subst (λ k. SumsUpBy (λ ts. HasRun N c ts (batches_of k)) P w 1 t t' (sampled k start).value (totals_of []) now err emid) end (sofar.sums, run)
+
     pub summed_all : (count : ℕ) → done ≡ count → SumsUp P w 1 t t' (sample_lines count start) (totals_of []) now err emid
     summed_all count end = subst (λ k. SumsUp P w 1 t t' (sampled k start).value (totals_of []) now err emid) end sofar.sums
 

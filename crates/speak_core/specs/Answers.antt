@@ -59,7 +59,7 @@ told_all report answers ts w = told report.wanted 1 answers ts ++ if_wanted repo
 -- What may be told of lines that say this.
 pub record Tells (report : Reporting) (lines : List (List ℕ)) (answers : List Answer) (text : List ℕ) : Type 0 where
   pub tallies : List Tally
-  pub tallied : AllTallied lines tallies
+  pub tallied : AllTallied lines answers tallies
   pub swept : Swept
   pub sums : swept_sum swept ≡ report.beside * batches_of (length lines)
   pub is : text ≡ told_all report answers tallies swept

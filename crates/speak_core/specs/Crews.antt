@@ -1,5 +1,5 @@
 -- Which lines are whose, and which callers speak them.
-use Rattle.std.specs.Prelude.{◌≡◌, ◌==◌, ◌≤◌, ◌<◌, ℕ, ◌+◌, ◌-◌, ◌*◌, ◌%◌, ◌^◌, List, [], ◌∷◌, ◌++◌, All, Some, length, nat_lt, slice_get, slice_index_or, slice_set, if◌then◌else◌}
+use Rattle.std.specs.Prelude.{◌≡◌, ◌==◌, ◌≤◌, ◌<◌, ℕ, ◌+◌, ◌-◌, ◌*◌, ◌%◌, ◌^◌, List, [], ◌∷◌, ◌++◌, All, Some, length, map, nat_lt, slice_get, slice_index_or, slice_set, if◌then◌else◌}
 use Rattle.std.specs.List.{AllZip}
 use Rattle.std.specs.declared.alloc.Global.{Global}
 use Rattle.std.specs.declared.collections.VecDeque.{VecDeque}
@@ -7,6 +7,11 @@ use Rattle.normaliser.specs.Lines.{Saying}
 use Rattle.normaliser.specs.Searches.{IsCallerOf, places_of}
 use Rattle.normaliser.specs.declared.normalisers.Normaliser.{Normaliser}
 use Rattle.speak_core.specs.Parts.{answer_of, lines_of, says_of, tally_of}
+use Rattle.shared_cascade.specs.Callers.{cascades_in, log_of}
+use Rattle.shared_cascade.specs.Sweeps.{AreRounds, done_in, was_in}
+use Rattle.shared_cascade.specs.declared.callers.Caller.{Caller}
+use Rattle.shared_cascade.specs.declared.tallies.Tally.{Tally}
+use Rattle.speak_core.specs.Logs.{AreTallies, Grows, GrowsBySweep}
 use Rattle.speak_core.specs.Reports.{IsTallyOf, batches_of, swept_sum}
 use Rattle.shared_cascade.specs.declared.sweeping.Swept.{Swept}
 use Rattle.speak_words.specs.Asked.{AreInBounds}
@@ -26,6 +31,10 @@ abbrev pub dealt : {X : Type 0} → ℕ → ℕ → ℕ → List X → List X
 dealt jobs worker before [] = []
 dealt jobs worker before (x ∷ xs) = if before % jobs == worker then x ∷ dealt jobs worker (before + 1) xs else dealt jobs worker (before + 1) xs
 
+-- the list begins with these
+abbrev pub BeginsWith : {X : Type 0} → List X → List X → Type 0
+BeginsWith front all = (rest : List _) × (all ≡ front ++ rest)
+
 -- the callers of a crew may be given lines, and are as many as it needs
 pub record IsCrewOf (n : Normaliser) (crew : Crew) : Type 0 where
   pub callers : All (IsCallerOf n) crew.callers.items
@@ -35,7 +44,7 @@ pub record IsCrewOf (n : Normaliser) (crew : Crew) : Type 0 where
 
 -- what a line says was heard, and what came of its looks
 abbrev pub Hears : Saying → List ℕ → Heard → Type 0
-Hears says line h = says line (answer_of h) × IsTallyOf line (tally_of h)
+Hears says line h = says line (answer_of h) × IsTallyOf line (answer_of h) (tally_of h)
 
 -- the first of some lines were heard, or all
 pub record HearsFront (says : Saying) (all : List (List ℕ)) (heard : List Heard) : Type 0 where
@@ -103,3 +112,23 @@ pub record Worked (s : Speaker) (share : Share) (done : Done) : Type 0 where
   pub ready : IsCallerOf s.normaliser done.caller
   pub heard : HearsFront (says_of s) (lines_of_share share) done.heard.items
   pub swept : swept_sum done.swept ≡ places_of s.normaliser * share.rounds
+  pub middle : Caller
+  pub grew : length done.heard.items ≡ length (lines_of_share share) → Grows s.normaliser share.caller middle (map tally_of done.heard.items)
+  pub by_sweep : GrowsBySweep s.normaliser middle done.caller share.rounds done.swept
+
+-- What callers have done in a run by these settings, after so many batches whose lines have these tallies: the log of each worker has the parts of
+-- its own lines and nothing else, and that of the sweeper the rounds of each batch.
+pub record HaveRun (n : Normaliser) (s : Settings) (callers : List Caller) (swept : Swept) (tallies : List Tally) (batches : ℕ) : Type 0 where
+  pub workers : (j : ℕ) (c : Caller) → j < s.jobs → slice_get callers j ≡ Some c → AreTallies (cascades_in n.shared) (places_of n) (dealt s.jobs j 0 tallies) (log_of c)
+  pub sweeper : (c : Caller) → slice_get callers s.jobs ≡ Some c → AreRounds (places_of n) (s.sweep * batches) (log_of c) × (swept.done ≡ done_in (log_of c)) × (swept.was ≡ was_in (log_of c))
+
+abbrev pub HasRun : Normaliser → Crew → List Tally → ℕ → Type 0
+HasRun n crew tallies batches = HaveRun n crew.settings crew.callers.items crew.swept tallies batches
+
+-- A batch more, whose first line has this number, with these tallies of its lines.
+abbrev pub RunsOn : Normaliser → Crew → Crew → ℕ → List Tally → Type 0
+RunsOn n old new first tallies = (before : List Tally) (batches : ℕ) → length before ≡ first - 1 → HasRun n old before batches → HasRun n new (before ++ tallies) (batches + 1)
+
+-- So many lines more, in as few batches as they have.
+abbrev pub RunsAll : Normaliser → Crew → Crew → ℕ → List Tally → Type 0
+RunsAll n old new first tallies = (before : List Tally) (batches : ℕ) → length before ≡ first - 1 → HasRun n old before batches → HasRun n new (before ++ tallies) (batches + batches_of (length tallies))

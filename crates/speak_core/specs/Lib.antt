@@ -10,7 +10,9 @@ pub mod Owed
 pub mod Stops
 pub mod Inputs
 pub mod Parts
+pub mod Logs
 pub mod Crews
+pub mod Left
 pub mod Loaded
 pub mod Works
 pub mod Told

@@ -1,5 +1,5 @@
 -- What was found on a shelf.
-use Rattle.std.specs.Prelude.{◌≡◌, ◌≤◌, ◌+◌, ℕ, All, List, length, Ok, Err, Some, Result, map, slice_get, Vec}
+use Rattle.std.specs.Prelude.{◌≡◌, ◌≤◌, ◌+◌, ℕ, All, List, [], length, Ok, Err, Some, Result, map, slice_get, Vec}
 use Rattle.std.specs.declared.alloc.Global.{Global}
 use Rattle.core_expressions.specs.Views.{expression_of}
 use Rattle.core_expressions.specs.declared.expressions.Expr.{Expr}
@@ -15,7 +15,8 @@ use Rattle.thrax_link.specs.Linking.{Linked, Outcome, exporting}
 use Rattle.thrax_link.specs.declared.grammar.Export.{Export}
 use Rattle.weighted_relations.specs.Expressions.{Expression}
 use Rattle.speak_core.specs.Accepted.{RequestAsks, IsOnly, OrText, RulesOf, all_rules, need_of}
-use Rattle.speak_core.specs.Crews.{IsCrewOf}
+use Rattle.speak_core.specs.Crews.{HasRun, IsCrewOf}
+use Rattle.speak_core.specs.Left.{IsOfPlan}
 use Rattle.speak_core.specs.Outputs.{checked_text}
 use Rattle.speak_core.specs.Reports.{swept_sum}
 use Rattle.speak_core.specs.Requests.{Request}
@@ -86,10 +87,12 @@ pub record IsLoadedBy (settings : Settings) (loaded : Loaded) : Type 0 where
   pub ready : IsCrewOf loaded.speaker.normaliser loaded.crew
   pub by : loaded.crew.settings ≡ settings
   pub unswept : swept_sum loaded.crew.swept ≡ 0
+  pub begun : HasRun loaded.speaker.normaliser loaded.crew [] 0
 
--- by its speaker the lines say the same as by a plan
-abbrev pub SpeaksBy : Plan → Loaded → Type 0
-SpeaksBy plan loaded = SaySame (says_of loaded.speaker) (saying_of plan)
+-- by its speaker the lines say the same as by a plan, and its table has the cascades of the plan's rules
+pub record SpeaksBy (plan : Plan) (loaded : Loaded) : Type 0 where
+  pub says : SaySame (says_of loaded.speaker) (saying_of plan)
+  pub of_plan : IsOfPlan loaded.speaker.normaliser plan
 
 -- this text tells the sizes of a plan's rules
 abbrev pub ChecksBy : Plan → Vec ℕ Global → Type 0

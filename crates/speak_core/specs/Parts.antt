@@ -55,7 +55,7 @@ tally_of h = h.tally
 -- what may be told of lines that say this, up to an end
 pub record TellsSome (report : Bool) (first : ℕ) (all : List (List ℕ)) (answers : List Answer) (old new : Option (List ℕ)) : Type 0 where
   pub tallies : List Tally
-  pub tallied : AllTallied all tallies
+  pub tallied : AllTallied all answers tallies
   pub front : AppendsPrefix old new (told report first answers tallies)
 
 -- a front of one of some texts was appended
@@ -92,7 +92,7 @@ pub record AnswersFront (says : Saying) (all : List (List ℕ)) (answers : List 
   pub left : List (List ℕ)
   pub parts : all ≡ done ++ left
   pub said : AllSaid says done answers
-  pub tallied : AllTallied done tallies
+  pub tallied : AllTallied done answers tallies
   pub whole : is_whole ≡ true → left ≡ []
 
 -- The first of some lines that were heard were told, or all: these are their words, and what is told of them, numbered on from this number.
@@ -109,11 +109,15 @@ pub record Speaks (says : Saying) (report : Bool) (first : ℕ) (sum sum' : Tall
   pub answers : List Answer
   pub said : AllSaid says all answers
   pub tallies : List Tally
-  pub tallied : AllTallied all tallies
+  pub tallied : AllTallied all answers tallies
   pub words : Appends out out' (written answers)
   pub faults : Appends err err' (told report first answers tallies)
   pub total : sum' ≡ with_tallies sum tallies
   pub read : was_read ≡ all_read answers
+
+-- and this holds of the tallies that were told
+abbrev pub SpeaksBy : (List Tally → Type 0) → Saying → Bool → ℕ → Tally → Tally → List (List ℕ) → Option (List ℕ) → Option (List ℕ) → Option (List ℕ) → Option (List ℕ) → Bool → Type 0
+SpeaksBy Ran says report first sum sum' all out out' err err' was_read = (spoken : Speaks says report first sum sum' all out out' err err' was_read) × Ran spoken.tallies
 
 -- What all lines say was written as one text of their answers, and what is told of them.
 pub record Writes (says : Saying) (report : Reporting) (all : List (List ℕ)) (text : List Answer → List ℕ) (out out' err err' : Option (List ℕ)) (was_read : Bool) : Type 0 where
@@ -129,6 +133,10 @@ pub record SumsUp (says : Saying) (report : Bool) (first : ℕ) (sum sum' : Tall
   pub said : AllSaid says all answers
   pub added : (before : List Said) → old ≡ totals_of before → new ≡ totals_of (before ++ map said_of answers)
   pub tallies : List Tally
-  pub tallied : AllTallied all tallies
+  pub tallied : AllTallied all answers tallies
   pub faults : Appends err err' (told report first answers tallies)
   pub total : sum' ≡ with_tallies sum tallies
+
+-- and this holds of the tallies that were told
+abbrev pub SumsUpBy : (List Tally → Type 0) → Saying → Bool → ℕ → Tally → Tally → List (List ℕ) → Totals → Totals → Option (List ℕ) → Option (List ℕ) → Type 0
+SumsUpBy Ran says report first sum sum' all old new err err' = (summed : SumsUp says report first sum sum' all old new err err') × Ran summed.tallies

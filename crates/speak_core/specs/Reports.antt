@@ -1,25 +1,27 @@
 -- What is reported of the looks for expansions that lines made: of each line, and in total.
-use Rattle.std.specs.Prelude.{◌≡◌, ◌==◌, ℕ, ◌+◌, ◌-◌, ◌*◌, ◌/◌, ◌^◌, List, [], ◌∷◌, ◌++◌, Bool, true, false, codes, min, if◌then◌else◌}
+use Rattle.std.specs.Prelude.{◌≡◌, ◌≢◌, ◌==◌, ◌≤◌, ℕ, ◌+◌, ◌-◌, ◌*◌, ◌/◌, ◌^◌, List, [], ◌∷◌, ◌++◌, Bool, Err, true, false, codes, length, min, if◌then◌else◌}
 use Rattle.std.specs.Fmt.{decimal}
-use Rattle.normaliser.specs.Lines.{IsSearched}
+use Rattle.normaliser.specs.Lines.{Answer, IsSearched}
+use Rattle.normaliser.specs.declared.faults.LineFault.TheVariants.{NoPath}
 use Rattle.shared_cascade.specs.Tallies.{no_tally, with_all}
 use Rattle.shared_cascade.specs.declared.tallies.Outcome.{Outcome}
 use Rattle.shared_cascade.specs.declared.sweeping.Swept.{Swept}
 use Rattle.shared_cascade.specs.declared.tallies.Tally.{Tally}
 use Rattle.speak_words.specs.declared.asked.Settings.{Settings}
 
--- What came of the looks for a line was counted. A line that isn't searched makes none.
-pub record IsTallyOf (line : List ℕ) (t : Tally) : Type 0 where
+-- What came of the looks for a line that says this was counted. A line that isn't searched makes none; one that has a path, a look for each of
+-- its bytes and one more.
+pub record IsTallyOf (line : List ℕ) (answer : Answer) (t : Tally) : Type 0 where
   pub outcomes : List Outcome
   pub counted : t ≡ with_all outcomes no_tally
   pub unsearched : (IsSearched line → ⊥) → t ≡ no_tally
+  pub looked : IsSearched line → answer ≢ Err NoPath → length line + 1 ≤ t.looks
 
 -- so it is of each line, in order
-abbrev pub AllTallied : List (List ℕ) → List Tally → Type 0
-AllTallied [] [] = Unit {0}
-AllTallied [] (t ∷ ts) = ⊥
-AllTallied (line ∷ lines) [] = ⊥
-AllTallied (line ∷ lines) (t ∷ ts) = IsTallyOf line t × AllTallied lines ts
+abbrev pub AllTallied : List (List ℕ) → List Answer → List Tally → Type 0
+AllTallied [] [] [] = Unit {0}
+AllTallied (line ∷ lines) (answer ∷ answers) (t ∷ ts) = IsTallyOf line answer t × AllTallied lines answers ts
+AllTallied _ _ _ = ⊥
 
 -- a sum that stays at the greatest value
 abbrev pub sum_of : ℕ → ℕ → ℕ

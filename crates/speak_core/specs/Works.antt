@@ -1,11 +1,13 @@
 -- What is left to do for a job once all is loaded.
-use Rattle.std.specs.Prelude.{◌≡◌, ◌⊎◌, ℕ, List, [], Result, Ok, Err, Bool, true, false}
+use Rattle.std.specs.Prelude.{◌≡◌, ◌⊎◌, ℕ, List, [], Option, Result, Ok, Err, Bool, true, false}
 use Rattle.norm_base.specs.Counts.{Rose}
 use Rattle.normaliser.specs.Lines.{Answer, Saying}
 use Rattle.speak_words.specs.Asked.{Job}
 use Rattle.speak_words.specs.declared.asked.Settings.{Settings}
 use Rattle.text_lines.specs.Lines.{lines}
 use Rattle.speak_core.specs.Answers.{AllSaid, written}
+use Rattle.shared_cascade.specs.declared.callers.Caller.{Caller}
+use Rattle.speak_core.specs.Left.{JobLeaves, Leaves}
 use Rattle.speak_core.specs.Loaded.{ChecksBy, IsLoadedBy, SpeaksBy}
 use Rattle.speak_core.specs.Outputs.{lines_for, out_text, reports_for, sample_lines, summary_of}
 use Rattle.speak_core.specs.Parts.{says_of}
@@ -40,6 +42,12 @@ abbrev pub CanBeDone : Settings → Work → Type 0
 CanBeDone settings (Input loaded) = IsLoadedBy settings loaded
 CanBeDone settings (Checked text) = Unit {0}
 CanBeDone settings (Sampled sample) = IsLoadedBy settings sample.loaded
+
+-- what it leaves of callers: none where only sizes are told
+abbrev pub work_leaves : Work → Settings → List ℕ → List Caller → Option (List ℕ) → Option (List ℕ) → Type 0
+work_leaves (Input loaded) settings input callers err err' = Leaves (says_of loaded.speaker) loaded.speaker.normaliser settings (lines input) callers err err'
+work_leaves (Checked text) settings input callers err err' = callers ≡ []
+work_leaves (Sampled sample) settings input callers err err' = Leaves (says_of sample.loaded.speaker) sample.loaded.speaker.normaliser settings (sample_lines sample.count sample.start) callers err err'
 
 -- whether the work reads the input
 abbrev pub work_reads : Work → Bool
@@ -76,6 +84,7 @@ pub record Does (job : Job) (plan : Plan) (work : Work) : Type 0 where
   pub text : (answers : List Answer) → work_text work answers ≡ out_text job plan answers
   pub lines : (input : List ℕ) → work_lines work input ≡ lines_for job input
   pub reports : (report : Reporting) → work_reports work report ≡ reports_for job report
+  pub leaves : (settings : Settings) (input : List ℕ) (callers : List Caller) (err err' : Option (List ℕ)) → work_leaves work settings input callers err err' → JobLeaves job plan settings input callers err err'
 
 -- The counts of the source and the two sinks: all stay where the work ends well or the input is too long, and one rose where it stops at an
 -- outside fault.

@@ -1,7 +1,7 @@
 // The callers of a run.
 
-ghost use Rattle.std.specs.Prelude.{◌≡◌, ◌==◌, ◌≤◌, ◌<◌, ◌+◌, ◌-◌, ◌*◌, ◌%◌, ◌^◌, [], IfOk, OnOk, length, map, slice_index_or};
-ghost use Rattle.speak_core.specs.Crews.{AreShares, CanWork, IsCrewOf, SweptOn, Worked, rounds_of, seats_for};
+ghost use Rattle.std.specs.Prelude.{◌≡◌, ◌==◌, ◌≤◌, ◌<◌, ◌+◌, ◌-◌, ◌*◌, ◌%◌, ◌^◌, [], IfOk, OnOk, length, map, slice_index_or, true};
+ghost use Rattle.speak_core.specs.Crews.{AreShares, CanWork, IsCrewOf, RunsOn, SweptOn, Worked, rounds_of, seats_for};
 ghost use Rattle.speak_core.specs.Reports.{swept_sum};
 ghost use Rattle.speak_words.specs.Asked.{AreInBounds};
 ghost use Rattle.speak_core.specs.declared.shares.Done.{Done};
@@ -81,6 +81,7 @@ pub(crate) fn answer_batch<R: Threads + Sync, W: Watch + Sync>(
     ensures settings { crew.new.settings ≡ crew.old.settings }
     ensures swept { OnOk result (SweptOn crew.old.settings crew.old.swept crew.new.swept) }
     ensures answers { IfOk result (λ answers. AnswersFront (says_of speaker.now) (lines_of lines.now) (map answer_of answers.all.items) (map tally_of answers.all.items) answers.is_whole) }
+    ensures ran { IfOk result (λ answers. answers.is_whole ≡ true → RunsOn speaker.now.normaliser crew.old crew.new first (map tally_of answers.all.items)) }
 {
     let shares = deal(alloc, crew, lines, first)?;
     let done = map_vec(
@@ -150,7 +151,8 @@ fn swept_last(all: &[Done]) -> Swept
 /// Adds what one more sweep found.
 fn add_swept(swept: &mut Swept, more: &Swept)
     requires { swept_sum swept.old + swept_sum more.now < 2 ^ 64 }
-    ensures { swept_sum swept.new ≡ swept_sum swept.old + swept_sum more.now }
+    ensures done { swept.new.done ≡ swept.old.done + more.now.done }
+    ensures was { swept.new.was ≡ swept.old.was + more.now.was }
 {
     swept.done += more.done;
     swept.was += more.was;

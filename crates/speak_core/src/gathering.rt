@@ -1,7 +1,10 @@
 // What the workers heard of a batch, put together again.
 
-ghost use Rattle.std.specs.Prelude.{◌≡◌, ◌<◌, ◌≤◌, ◌+◌, ◌-◌, ◌%◌, ◌^◌, IfSome, length, map};
-ghost use Rattle.speak_core.specs.Crews.{AllHear, Takes};
+ghost use Rattle.std.specs.Prelude.{◌≡◌, ◌<◌, ◌≤◌, ◌+◌, ◌-◌, ◌%◌, ◌^◌, ℕ, IfSome, Some, length, map, slice_get, true};
+ghost use Rattle.std.specs.declared.alloc.Global.{Global};
+ghost use Rattle.std.specs.declared.collections.VecDeque.{VecDeque};
+ghost use Rattle.speak_core.specs.declared.batches.Heard.{Heard};
+ghost use Rattle.speak_core.specs.Crews.{AllHear, BeginsWith, Takes, dealt};
 ghost use Rattle.speak_core.specs.Parts.{AnswersFront, answer_of, lines_of, says_of, tally_of};
 ghost use Rattle.speak_core.specs.declared.speakers.Speaker.{Speaker};
 
@@ -21,7 +24,9 @@ pub(crate) fn gather(
     requires numbers { first + length lines.now < 2 ^ 64 }
     requires some { 1 ≤ jobs }
     requires jobs { jobs ≤ length queues.old }
-    ensures { (s : Speaker) → AllHear (says_of s) jobs (first - 1) (lines_of lines.now) queues.old → AnswersFront (says_of s) (lines_of lines.now) (map answer_of result.all.items) (map tally_of result.all.items) result.is_whole }
+    ensures answers { (s : Speaker) → AllHear (says_of s) jobs (first - 1) (lines_of lines.now) queues.old → AnswersFront (says_of s) (lines_of lines.now) (map answer_of result.all.items) (map tally_of result.all.items) result.is_whole }
+    ensures count { result.is_whole ≡ true → length result.all.items ≡ length lines.now }
+    ensures from { (worker : ℕ) (queue : VecDeque Heard Global) → slice_get queues.old worker ≡ Some queue → BeginsWith (dealt jobs worker (first - 1) result.all.items) queue.items }
 {
     let mut answers = Answers {
         all: Vec::new(alloc),

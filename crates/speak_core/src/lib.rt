@@ -32,6 +32,7 @@ mod top;
 mod watch;
 mod works;
 
+pub use normaliser::Caller;
 pub use speak_setup::{Need, Setup, SetupFault, read_setup};
 pub use top::speak;
 pub use watch::{NoWatch, Watch};

@@ -1,6 +1,6 @@
 // A run of the command.
 
-ghost use Rattle.std.specs.Prelude.{◌≡◌, ◌⊎◌, ◌≤◌, IfErr, IfOk, IfSome, IsErrOf, IsSomeAnd, OnOk, None, List, ℕ, String, true, false};
+ghost use Rattle.std.specs.Prelude.{◌≡◌, ◌⊎◌, ◌≤◌, IfErr, IfOk, IfSome, IsErrOf, IsSomeAnd, OnErr, OnOk, None, List, [], ℕ, String, true, false};
 ghost use Rattle.std.specs.Result.{IsErrAnd};
 ghost use Rattle.std.specs.Io.KnownBytes.{Appends, IsAtEnd};
 ghost use Rattle.norm_base.specs.Bytes.{AppendsPrefix};
@@ -10,16 +10,17 @@ ghost use Rattle.text_lines.specs.Lines.{lines};
 ghost use Rattle.speak_core.specs.Accepted.{Asks, Refused};
 ghost use Rattle.speak_core.specs.Answers.{AllSaid, Tells, written};
 ghost use Rattle.speak_core.specs.Requests.{job_in};
-ghost use Rattle.speak_core.specs.Devices.{seen};
+ghost use Rattle.speak_core.specs.Devices.{OfInput, seen};
 ghost use Rattle.speak_core.specs.Given.{Gives, GivesBatches};
 ghost use Rattle.speak_core.specs.Inputs.{GaveTooMuch, IfGaveTooMuch};
+ghost use Rattle.speak_core.specs.Left.{Leaves, LeavesCallers};
 ghost use Rattle.speak_core.specs.Loaded.{IsLoadedBy, StopsAs};
 ghost use Rattle.speak_core.specs.Outputs.{reads_input};
 ghost use Rattle.speak_core.specs.Owed.{OfOwed, SpeaksAll, Told};
 ghost use Rattle.speak_core.specs.Parts.{AppendsSome, Writes, says_of};
 ghost use Rattle.speak_core.specs.Reports.{reporting_of};
 ghost use Rattle.speak_core.specs.Stops.{AllCounts, Counts, IsAccepted, IsDeviceStop, IsReadingStop, IsRefusalStop};
-ghost use Rattle.speak_core.specs.Works.{CanBeDone, WorkCounts, work_lines, work_reads, work_reports, work_says, work_text};
+ghost use Rattle.speak_core.specs.Works.{CanBeDone, WorkCounts, work_leaves, work_lines, work_reads, work_reports, work_says, work_text};
 
 use crate::outside::put;
 use crate::reports::Report;
@@ -30,6 +31,7 @@ use crate::stop::Stop;
 use crate::watch::Watch;
 use crate::works::{Work, find_work};
 use norm_base::{Shelf, Sink, Source};
+use normaliser::Caller;
 use speak_words::{Settings, read_words};
 use std::alloc::Global;
 use std::thread::Threads;
@@ -44,7 +46,11 @@ pub(crate) fn run<R: Threads + Sync, H: Shelf, S: Source, O: Sink, E: Sink, W: W
     source: &mut S,
     out: &mut O,
     err: &mut E,
+    callers: &mut Vec<Caller>,
 ) -> Result<bool, Stop>
+    requires none { callers.old.items ≡ [] }
+    ensures left { IfOk result (λ is_read. OfInput (H.files shelf.old) (S.left source.old) (λ files input. LeavesCallers words.now files input callers.new.items (E.held err.old) (E.held err.new))) }
+    ensures none { OnErr result (callers.new.items ≡ []) }
     ensures words { IsErrOf result Stop.Words → job_in words.now ≡ None }
     ensures only_words { job_in words.now ≡ None → IsErrOf result Stop.Words ⊎ IsErrOf result Stop.Memory }
     ensures refused { IfErr result (λ stop. IfSome (H.files shelf.old) (λ files. StopsAs (Asks words.now files) stop)) }
@@ -74,7 +80,17 @@ pub(crate) fn run<R: Threads + Sync, H: Shelf, S: Source, O: Sink, E: Sink, W: W
         return Err(Stop::Words);
     };
     let work = find_work(alloc, shelf, &asked.mode, asked.settings)?;
-    do_work(rt, alloc, watch, work, asked.settings, source, out, err)
+    do_work(
+        rt,
+        alloc,
+        watch,
+        work,
+        asked.settings,
+        source,
+        out,
+        err,
+        callers,
+    )
 }
 
 /// Does what is left of a job, and answers whether each line was read.
@@ -87,8 +103,12 @@ fn do_work<R: Threads + Sync, S: Source, O: Sink, E: Sink, W: Watch + Sync>(
     source: &mut S,
     out: &mut O,
     err: &mut E,
+    callers: &mut Vec<Caller>,
 ) -> Result<bool, Stop>
     requires ready { CanBeDone settings work }
+    requires none { callers.old.items ≡ [] }
+    ensures left { IfSome (S.left source.old) (λ input. OnOk result (work_leaves work settings input callers.new.items (E.held err.old) (E.held err.new))) }
+    ensures none { OnErr result (callers.new.items ≡ []) }
     ensures done { IfSome (S.left source.old) (λ input. IfOk result (Writes (work_says work) (work_reports work (reporting_of settings)) (work_lines work input) (work_text work) (O.held out.old) (O.held out.new) (E.held err.old) (E.held err.new))) }
     ensures out_front { IfSome (S.left source.old) (λ input. (answers : List Answer) → AllSaid (work_says work) (work_lines work input) answers → AppendsPrefix (O.held out.old) (O.held out.new) (work_text work answers)) }
     ensures err_front { IfSome (S.left source.old) (λ input. (answers : List Answer) → AllSaid (work_says work) (work_lines work input) answers → AppendsSome (Tells (work_reports work (reporting_of settings)) (work_lines work input) answers) (E.held err.old) (E.held err.new)) }
@@ -102,9 +122,9 @@ fn do_work<R: Threads + Sync, S: Source, O: Sink, E: Sink, W: Watch + Sync>(
     ensures stops { IfErr result IsReadingStop }
 {
     match work {
-        Work::Input(loaded) => { speak_input(rt, alloc, watch, loaded, source, out, err) }
+        Work::Input(loaded) => speak_input(rt, alloc, watch, loaded, source, out, err, callers),
         Work::Checked(text) => tell_sizes(out, &text),
-        Work::Sampled(sample) => speak_sample(rt, alloc, watch, sample, out, err),
+        Work::Sampled(sample) => speak_sample(rt, alloc, watch, sample, out, err, callers),
     }
 }
 
@@ -117,8 +137,11 @@ fn speak_input<R: Threads + Sync, S: Source, O: Sink, E: Sink, W: Watch + Sync>(
     source: &mut S,
     out: &mut O,
     err: &mut E,
+    callers: &mut Vec<Caller>,
 ) -> Result<bool, Stop>
     requires ready { IsLoadedBy loaded.crew.settings loaded }
+    ensures left { IfSome (S.left source.old) (λ input. OnOk result (Leaves (says_of loaded.speaker) loaded.speaker.normaliser loaded.crew.settings (lines input) callers.new.items (E.held err.old) (E.held err.new))) }
+    ensures none { OnErr result (callers.new.items ≡ callers.old.items) }
     ensures done { IfSome (S.left source.old) (λ input. IfOk result (Writes (says_of loaded.speaker) (reporting_of loaded.crew.settings) (lines input) written (O.held out.old) (O.held out.new) (E.held err.old) (E.held err.new))) }
     ensures out_front { IfSome (S.left source.old) (λ input. (answers : List Answer) → AllSaid (says_of loaded.speaker) (lines input) answers → AppendsPrefix (O.held out.old) (O.held out.new) (written answers)) }
     ensures err_front { IfSome (S.left source.old) (λ input. (answers : List Answer) → AllSaid (says_of loaded.speaker) (lines input) answers → AppendsSome (Tells (reporting_of loaded.crew.settings) (lines input) answers) (E.held err.old) (E.held err.new)) }
@@ -144,6 +167,7 @@ fn speak_input<R: Threads + Sync, S: Source, O: Sink, E: Sink, W: Watch + Sync>(
         err,
     )?;
     report.tell(alloc, crew.beside(), &crew.swept, err)?;
+    *callers = crew.callers;
     Ok(is_read)
 }
 

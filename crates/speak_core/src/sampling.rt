@@ -1,16 +1,17 @@
 // The lines of a sample, batch by batch.
 
-ghost use Rattle.std.specs.Prelude.{◌≡◌, ◌≤◌, ◌<◌, ◌+◌, ◌*◌, ◌++◌, ◌^◌, IfErr, IfOk, List, OnOk, [], length, map};
+ghost use Rattle.std.specs.Prelude.{◌≡◌, ◌≤◌, ◌<◌, ◌+◌, ◌*◌, ◌++◌, ◌^◌, IfErr, IfOk, List, OnErr, OnOk, [], length, map};
 ghost use Rattle.std.specs.Option.{option_map};
 ghost use Rattle.norm_base.specs.Bytes.{AppendsPrefix};
 ghost use Rattle.normaliser.specs.Lines.{Answer};
 ghost use Rattle.sample_lines.specs.Summary.{Said, totals_of};
 ghost use Rattle.speak_core.specs.Answers.{AllSaid, Tells};
-ghost use Rattle.speak_core.specs.Crews.{HasSwept, IsCrewOf, SweptOn};
-ghost use Rattle.speak_core.specs.Reports.{reporting_of, swept_sum};
+ghost use Rattle.speak_core.specs.Crews.{HasRun, HasSwept, IsCrewOf, RunsOn, SweptOn};
+ghost use Rattle.speak_core.specs.Reports.{batches_of, reporting_of, swept_sum};
+ghost use Rattle.speak_core.specs.Left.{Leaves};
 ghost use Rattle.speak_core.specs.Loaded.{IsLoadedBy};
 ghost use Rattle.speak_core.specs.Outputs.{said_of, sample_lines, summary_of};
-ghost use Rattle.speak_core.specs.Parts.{AppendsSome, SumsUp, TellsSome, Writes, answer_in, answer_of, lines_of, says_of};
+ghost use Rattle.speak_core.specs.Parts.{AppendsSome, SumsUpBy, TellsSome, Writes, answer_in, answer_of, lines_of, says_of};
 ghost use Rattle.speak_core.specs.Stops.{Counts, IsDeviceStop, SinkCounts};
 
 use crate::batches::{Heard, MOST_LINES, tell_answers};
@@ -22,7 +23,7 @@ use crate::speakers::{Loaded, Speaker};
 use crate::stop::Stop;
 use crate::watch::Watch;
 use norm_base::Sink;
-use normaliser::{LineFault, Spoken};
+use normaliser::{Caller, LineFault, Spoken};
 use sample_lines::{Summary, sample_batch};
 use std::alloc::{AllocError, Global};
 use std::thread::Threads;
@@ -35,8 +36,11 @@ pub(crate) fn speak_sample<R: Threads + Sync, O: Sink, E: Sink, W: Watch + Sync>
     sample: Sample,
     out: &mut O,
     err: &mut E,
+    callers: &mut Vec<Caller>,
 ) -> Result<bool, Stop>
     requires ready { IsLoadedBy sample.loaded.crew.settings sample.loaded }
+    ensures left { OnOk result (Leaves (says_of sample.loaded.speaker) sample.loaded.speaker.normaliser sample.loaded.crew.settings (sample_lines sample.count sample.start) callers.new.items (E.held err.old) (E.held err.new)) }
+    ensures none { OnErr result (callers.new.items ≡ callers.old.items) }
     ensures done { IfOk result (Writes (says_of sample.loaded.speaker) (reporting_of sample.loaded.crew.settings) (sample_lines sample.count sample.start) summary_of (O.held out.old) (O.held out.new) (E.held err.old) (E.held err.new)) }
     ensures out_front { (answers : List Answer) → AllSaid (says_of sample.loaded.speaker) (sample_lines sample.count sample.start) answers → AppendsPrefix (O.held out.old) (O.held out.new) (summary_of answers) }
     ensures err_front { (answers : List Answer) → AllSaid (says_of sample.loaded.speaker) (sample_lines sample.count sample.start) answers → AppendsSome (Tells (reporting_of sample.loaded.crew.settings) (sample_lines sample.count sample.start) answers) (E.held err.old) (E.held err.new) }
@@ -65,6 +69,7 @@ pub(crate) fn speak_sample<R: Threads + Sync, O: Sink, E: Sink, W: Watch + Sync>
     report.tell(alloc, crew.beside(), &crew.swept, err)?;
     let text = summary.text(alloc)?;
     put(out, &text)?;
+    *callers = crew.callers;
     Ok(summary.refused() == 0)
 }
 
@@ -83,7 +88,9 @@ fn sum_up<R: Threads + Sync, E: Sink, W: Watch + Sync>(
     requires start { start < 2 ^ 31 }
     requires ready { IsCrewOf speaker.now.normaliser crew.old }
     requires unswept { swept_sum crew.old.swept ≡ 0 }
-    ensures done { IfOk result (λ summary. SumsUp (says_of speaker.now) report.old.is_wanted 1 report.old.total report.new.total (sample_lines count start) (totals_of []) summary (E.held err.old) (E.held err.new)) }
+    requires begun { HasRun speaker.now.normaliser crew.old [] 0 }
+    ensures ready { OnOk result (IsCrewOf speaker.now.normaliser crew.new) }
+    ensures done { IfOk result (λ summary. SumsUpBy (λ tallies. HasRun speaker.now.normaliser crew.new tallies (batches_of count)) (says_of speaker.now) report.old.is_wanted 1 report.old.total report.new.total (sample_lines count start) (totals_of []) summary (E.held err.old) (E.held err.new)) }
     ensures front { (answers : List Answer) → AllSaid (says_of speaker.now) (sample_lines count start) answers → TellsSome report.old.is_wanted 1 (sample_lines count start) answers (E.held err.old) (E.held err.new) }
     ensures wanted { report.new.is_wanted ≡ report.old.is_wanted }
     ensures count { OnOk result (report.new.lines ≡ count) }
@@ -140,7 +147,7 @@ fn sum_batch<R: Threads + Sync, E: Sink, W: Watch + Sync>(
     ensures ready { OnOk result (IsCrewOf speaker.now.normaliser crew.new) }
     ensures settings { crew.new.settings ≡ crew.old.settings }
     ensures swept { OnOk result (SweptOn crew.old.settings crew.old.swept crew.new.swept) }
-    ensures done { OnOk result (SumsUp (says_of speaker.now) report.old.is_wanted first report.old.total report.new.total (map (λ line. line.items) batch.now) summary.old summary.new (E.held err.old) (E.held err.new)) }
+    ensures done { OnOk result (SumsUpBy (RunsOn speaker.now.normaliser crew.old crew.new first) (says_of speaker.now) report.old.is_wanted first report.old.total report.new.total (map (λ line. line.items) batch.now) summary.old summary.new (E.held err.old) (E.held err.new)) }
     ensures front { (answers : List Answer) → AllSaid (says_of speaker.now) (map (λ line. line.items) batch.now) answers → TellsSome report.old.is_wanted first (map (λ line. line.items) batch.now) answers (E.held err.old) (E.held err.new) }
     ensures wanted { report.new.is_wanted ≡ report.old.is_wanted }
     ensures counts { Counts (E.faults err.old) (E.faults err.new) result }

@@ -1,9 +1,11 @@
 // What each worker does of a batch.
 
-ghost use Rattle.std.specs.Prelude.{◌≡◌, ◌∷◌, ◌<◌, ◌≤◌, ◌+◌, ◌-◌, ◌^◌, [], OnErr, OnOk, length};
+ghost use Rattle.std.specs.Prelude.{◌≡◌, ◌∷◌, ◌++◌, ◌<◌, ◌≤◌, ◌+◌, ◌-◌, ◌%◌, ◌^◌, List, [], OnErr, OnOk, length, map};
 ghost use Rattle.normaliser.specs.Searches.{IsCallerOf};
 ghost use Rattle.speak_core.specs.Crews.{CanWork, HearsFront, HearsMore, Worked, dealt, lines_of_share};
-ghost use Rattle.speak_core.specs.Parts.{says_of};
+ghost use Rattle.speak_core.specs.Logs.{Grows};
+ghost use Rattle.speak_core.specs.Parts.{says_of, tally_of};
+ghost use Rattle.shared_cascade.specs.declared.tallies.Tally.{Tally};
 
 use crate::batches::Heard;
 use crate::crews::is_turn;
@@ -67,6 +69,7 @@ fn answer_share<W: Watch>(
     requires worker { share.old.worker ≤ 63 }
     ensures ready { IsCallerOf speaker.now.normaliser share.new.caller }
     ensures heard { HearsFront (says_of speaker.now) (lines_of_share share.old) result.items }
+    ensures log { length result.items ≡ length (lines_of_share share.old) → Grows speaker.now.normaliser share.old.caller share.new.caller (map tally_of result.items) }
 {
     let mut heard = VecDeque::new(alloc);
     let mut room = Room::new(alloc);
@@ -100,6 +103,8 @@ fn answer_one<W: Watch>(
     ensures ready { IsCallerOf speaker.now.normaliser share.new.caller }
     ensures heard { OnOk result (HearsMore (says_of speaker.now) (dealt share.old.jobs share.old.worker (number - 1) (line.now ∷ [])) heard.old.items heard.new.items) }
     ensures none { OnErr result (heard.new.items ≡ heard.old.items) }
+    ensures turn { OnErr result ((number - 1) % share.old.jobs ≡ share.old.worker) }
+    ensures log { OnOk result ((ts : List Tally) × (map tally_of heard.new.items ≡ map tally_of heard.old.items ++ ts) × Grows speaker.now.normaliser share.old.caller share.new.caller ts) }
     ensures still { share.new ≡ record share.old { caller = share.new.caller } }
 {
     if !is_turn(number, share.worker, share.jobs) {

@@ -1,8 +1,9 @@
 // A normaliser with what is asked of it.
 
-ghost use Rattle.std.specs.Prelude.{◌≡◌, IfOk};
+ghost use Rattle.std.specs.Prelude.{◌≡◌, ◌≢◌, ◌≤◌, ◌+◌, IfOk, length};
 ghost use Rattle.normaliser.specs.Lines.{IsSaid, IsSearched};
-ghost use Rattle.normaliser.specs.Searches.{Did, IsCallerOf};
+ghost use Rattle.normaliser.specs.Searches.{Did, IsCallerOf, LooksWhereRead};
+ghost use Rattle.normaliser.specs.declared.faults.LineFault.TheVariants.{NoPath};
 ghost use Rattle.speak_core.specs.Parts.{IsPart, answer_of, is_short, says_of};
 
 use crate::batches::Heard;
@@ -37,6 +38,7 @@ impl Speaker {
         requires ready { IsCallerOf self.now.normaliser caller.old }
         ensures said { IfOk result (λ h. says_of self.now line.now (answer_of h)) }
         ensures part { IfOk result (λ h. IsPart self.now.normaliser line.now caller.old caller.new h.tally) }
+        ensures looked { IfOk result (λ h. IsSearched line.now → answer_of h ≢ Err NoPath → length line.now + 1 ≤ h.tally.looks) }
         ensures ready { IsCallerOf self.now.normaliser caller.new }
     {
         let _others = caller.take_tally();
@@ -60,6 +62,7 @@ impl Speaker {
         ensures said { IsSaid (says_of self.now) line.now result }
         ensures ready { IsCallerOf self.now.normaliser caller.new }
         ensures searched { Did self.now.normaliser.shared caller.old caller.new result }
+        ensures looks { LooksWhereRead self.now.normaliser caller.old caller.new line.now result }
         ensures kept { (IsSearched line.now → ⊥) → caller.new ≡ caller.old }
     {
         match self.mode {

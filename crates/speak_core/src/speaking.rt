@@ -1,16 +1,16 @@
 // The lines of the input, batch by batch.
 
-ghost use Rattle.std.specs.Prelude.{◌≡◌, ◌≤◌, ◌<◌, ◌+◌, ◌*◌, ◌^◌, IfErr, IfOk, IfSome, IsErrOf, IsSomeAnd, List, OnOk, length};
+ghost use Rattle.std.specs.Prelude.{◌≡◌, ◌≤◌, ◌<◌, ◌+◌, ◌*◌, ◌^◌, IfErr, IfOk, IfSome, IsErrOf, IsSomeAnd, List, OnOk, [], length};
 ghost use Rattle.std.specs.Io.KnownBytes.{Appends, IsAtEnd};
 ghost use Rattle.norm_base.specs.Bytes.{AppendsPrefix};
 ghost use Rattle.normaliser.specs.Lines.{Answer};
 ghost use Rattle.speak_core.specs.Answers.{AllSaid, written};
-ghost use Rattle.speak_core.specs.Crews.{HasSwept, IsCrewOf, SweptOn};
+ghost use Rattle.speak_core.specs.Crews.{HasRun, HasSwept, IsCrewOf, RunsAll, RunsOn, SweptOn};
 ghost use Rattle.speak_core.specs.Given.{GivesBatches};
 ghost use Rattle.speak_core.specs.Inputs.{GaveTooMuch, IfGaveTooMuch};
 ghost use Rattle.speak_core.specs.Reports.{batches_of, swept_sum};
 ghost use Rattle.text_lines.specs.Lines.{lines};
-ghost use Rattle.speak_core.specs.Parts.{Speaks, TellsSome, lines_of, says_of};
+ghost use Rattle.speak_core.specs.Parts.{SpeaksBy, TellsSome, lines_of, says_of};
 ghost use Rattle.speak_core.specs.Stops.{IsDeviceStop, IsReadingStop, SinkCounts};
 ghost use Rattle.speak_core.specs.Works.{WorkCounts};
 
@@ -42,7 +42,9 @@ pub(crate) fn speak_lines<R: Threads + Sync, S: Source, O: Sink, E: Sink, W: Wat
     requires none { report.old.lines ≡ 0 }
     requires ready { IsCrewOf speaker.now.normaliser crew.old }
     requires unswept { swept_sum crew.old.swept ≡ 0 }
-    ensures done { IfSome (S.left source.old) (λ input. IfOk result (λ is_read. Speaks (says_of speaker.now) report.old.is_wanted 1 report.old.total report.new.total (lines input) (O.held out.old) (O.held out.new) (E.held err.old) (E.held err.new) is_read)) }
+    requires begun { HasRun speaker.now.normaliser crew.old [] 0 }
+    ensures ready { OnOk result (IsCrewOf speaker.now.normaliser crew.new) }
+    ensures done { IfSome (S.left source.old) (λ input. IfOk result (λ is_read. SpeaksBy (λ tallies. HasRun speaker.now.normaliser crew.new tallies (batches_of (length (lines input)))) (says_of speaker.now) report.old.is_wanted 1 report.old.total report.new.total (lines input) (O.held out.old) (O.held out.new) (E.held err.old) (E.held err.new) is_read)) }
     ensures out_front { IfSome (S.left source.old) (λ input. (answers : List Answer) → AllSaid (says_of speaker.now) (lines input) answers → AppendsPrefix (O.held out.old) (O.held out.new) (written answers)) }
     ensures err_front { IfSome (S.left source.old) (λ input. (answers : List Answer) → AllSaid (says_of speaker.now) (lines input) answers → TellsSome report.old.is_wanted 1 (lines input) answers (E.held err.old) (E.held err.new)) }
     ensures given { IfSome (S.left source.old) (λ input. IsSomeAnd (S.left source.new) (λ left. (answers : List Answer) → AllSaid (says_of speaker.now) (lines input) answers → GivesBatches answers input left (O.held out.old) (O.held out.new))) }
@@ -89,7 +91,7 @@ fn speak_text<R: Threads + Sync, O: Sink, E: Sink, W: Watch + Sync>(
     ensures ready { OnOk result (IsCrewOf speaker.now.normaliser crew.new) }
     ensures settings { crew.new.settings ≡ crew.old.settings }
     ensures swept { OnOk result (swept_sum crew.new.swept ≡ swept_sum crew.old.swept + crew.old.settings.places * crew.old.settings.sweep * batches_of (length (lines text.now))) }
-    ensures done { IfOk result (λ is_read. Speaks (says_of speaker.now) report.old.is_wanted (report.old.lines + 1) report.old.total report.new.total (lines text.now) (O.held out.old) (O.held out.new) (E.held err.old) (E.held err.new) is_read) }
+    ensures done { IfOk result (λ is_read. SpeaksBy (RunsAll speaker.now.normaliser crew.old crew.new (report.old.lines + 1)) (says_of speaker.now) report.old.is_wanted (report.old.lines + 1) report.old.total report.new.total (lines text.now) (O.held out.old) (O.held out.new) (E.held err.old) (E.held err.new) is_read) }
     ensures out_front { (answers : List Answer) → AllSaid (says_of speaker.now) (lines text.now) answers → AppendsPrefix (O.held out.old) (O.held out.new) (written answers) }
     ensures err_front { (answers : List Answer) → AllSaid (says_of speaker.now) (lines text.now) answers → TellsSome report.old.is_wanted (report.old.lines + 1) (lines text.now) answers (E.held err.old) (E.held err.new) }
     ensures wanted { report.new.is_wanted ≡ report.old.is_wanted }
@@ -140,7 +142,7 @@ fn speak_batch<R: Threads + Sync, O: Sink, E: Sink, W: Watch + Sync>(
     ensures ready { OnOk result (IsCrewOf speaker.now.normaliser crew.new) }
     ensures settings { crew.new.settings ≡ crew.old.settings }
     ensures swept { OnOk result (SweptOn crew.old.settings crew.old.swept crew.new.swept) }
-    ensures done { IfOk result (λ is_read. Speaks (says_of speaker.now) report.old.is_wanted first report.old.total report.new.total (lines_of batch.now) (O.held out.old) (O.held out.new) (E.held err.old) (E.held err.new) is_read) }
+    ensures done { IfOk result (λ is_read. SpeaksBy (RunsOn speaker.now.normaliser crew.old crew.new first) (says_of speaker.now) report.old.is_wanted first report.old.total report.new.total (lines_of batch.now) (O.held out.old) (O.held out.new) (E.held err.old) (E.held err.new) is_read) }
     ensures out_front { (answers : List Answer) → AllSaid (says_of speaker.now) (lines_of batch.now) answers → AppendsPrefix (O.held out.old) (O.held out.new) (written answers) }
     ensures err_front { (answers : List Answer) → AllSaid (says_of speaker.now) (lines_of batch.now) answers → TellsSome report.old.is_wanted first (lines_of batch.now) answers (E.held err.old) (E.held err.new) }
     ensures wanted { report.new.is_wanted ≡ report.old.is_wanted }

@@ -9,6 +9,7 @@ ghost use Rattle.speak_core.specs.Requests.{job_in};
 ghost use Rattle.speak_core.specs.Devices.{NoneRose, OfInput, SomeRose, seen, sink_seen};
 ghost use Rattle.speak_core.specs.Given.{Gives};
 ghost use Rattle.speak_core.specs.Inputs.{GaveTooMuch, IfGaveTooMuch};
+ghost use Rattle.speak_core.specs.Left.{LeavesCallers};
 ghost use Rattle.speak_core.specs.Owed.{OfOwed, SpeaksAll, spoke_nothing};
 ghost use Rattle.speak_core.specs.Outputs.{reads_input};
 ghost use Rattle.speak_core.specs.Plans.{Plan};
@@ -21,6 +22,7 @@ use crate::running::run;
 use crate::stop::Stop;
 use crate::watch::Watch;
 use norm_base::{Shelf, Sink, Source};
+use normaliser::Caller;
 use std::alloc::Global;
 use std::thread::Threads;
 
@@ -56,7 +58,9 @@ pub fn speak<R: Threads + Sync, H: Shelf, S: Source, O: Sink, E: Sink, W: Watch 
     out: &mut O,
     err: &mut E,
     watch: &W,
+    callers: &mut Vec<Caller>,
 ) -> u8
+    requires none { callers.old.items ≡ [] }
     ensures range { result ≤ 6 }
 
     // The cause of each status. Of a setup, a grammar or a rule that is refused, a fault of a device is the shelf's.
@@ -95,6 +99,10 @@ pub fn speak<R: Threads + Sync, H: Shelf, S: Source, O: Sink, E: Sink, W: Watch 
     ensures told_memory { let devices = seen H.Shelf S.Source O.Sink E.Sink shelf.old source.old out.old err.old shelf.new source.new out.new err.new in
         result ≡ 5 → TellsShort words.now devices }
 
+    // The callers of the run: their table has the plan's cascades, and what is reported of each line is what its worker's log has of it.
+    ensures callers { result ≤ 1 → OfInput (H.files shelf.old) (S.left source.old) (λ files input. LeavesCallers words.now files input callers.new.items (E.held err.old) (E.held err.new)) }
+    ensures no_callers { 2 ≤ result → callers.new.items ≡ [] }
+
     ensures unread { (result ≡ 2) ⊎ (result ≡ 3) → S.left source.new ≡ S.left source.old }
     ensures kept { IfSome (job_in words.now) (λ job. reads_input job ≡ false → S.left source.new ≡ S.left source.old) }
     ensures files { H.files shelf.new ≡ H.files shelf.old }
@@ -103,7 +111,8 @@ pub fn speak<R: Threads + Sync, H: Shelf, S: Source, O: Sink, E: Sink, W: Watch 
     ensures given { let devices = seen H.Shelf S.Source O.Sink E.Sink shelf.old source.old out.old err.old shelf.new source.new out.new err.new in
         Gives words.now devices }
 {
-    finish(run(rt, alloc, watch, words, shelf, source, out, err), err)
+    let ended = run(rt, alloc, watch, words, shelf, source, out, err, callers);
+    finish(ended, err)
 }
 
 /// Tells why a run ended, where it didn't speak all lines, and answers its status.

@@ -40,6 +40,7 @@ fn run<R: Threads + Sync>(
     let mut source = MemSource::new(input, piece, Vec::from_slice(alloc, fails[1])?);
     let mut out = MemSink::new(alloc, piece, Vec::from_slice(alloc, fails[2])?);
     let mut err = MemSink::new(alloc, piece, Vec::from_slice(alloc, fails[3])?);
+    let mut callers = Vec::new(alloc);
     let status = speak(
         rt,
         alloc,
@@ -49,6 +50,7 @@ fn run<R: Threads + Sync>(
         &mut out,
         &mut err,
         &NoWatch,
+        &mut callers,
     );
     Ok(Left { status, out, err })
 }

@@ -85,6 +85,7 @@ fn run_with<R: Threads + Sync, S: Source + Drop>(
     let mut source = source;
     let mut out = MemSink::new(alloc, 1, Vec::from_slice(alloc, fails[1])?);
     let mut err = MemSink::new(alloc, 5, Vec::from_slice(alloc, fails[2])?);
+    let mut callers = Vec::new(alloc);
     let status = speak(
         rt,
         alloc,
@@ -94,6 +95,7 @@ fn run_with<R: Threads + Sync, S: Source + Drop>(
         &mut out,
         &mut err,
         &NoWatch,
+        &mut callers,
     );
     Ok(Left { status, out, err })
 }

@@ -24,6 +24,7 @@ fn main(rt: HostRuntime) -> ExitCode {
     let mut source = ReaderSource::new(rt.stdin());
     let mut out = WriterSink::new(rt.stdout());
     let mut err = WriterSink::new(rt.stderr());
+    let mut callers = Vec::new(alloc);
     ExitCode::from(speak(
         &rt,
         alloc,
@@ -33,6 +34,7 @@ fn main(rt: HostRuntime) -> ExitCode {
         &mut out,
         &mut err,
         &NoWatch,
+        &mut callers,
     ))
 }
 

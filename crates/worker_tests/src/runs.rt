@@ -11,6 +11,8 @@ pub(crate) struct Left {
     pub(crate) status: u8,
     pub(crate) out: SureSink,
     pub(crate) err: SureSink,
+    /// How many callers it had.
+    pub(crate) callers: usize,
 }
 
 /// A run of these words over the files of a shelf.
@@ -27,6 +29,7 @@ pub(crate) fn run<R: Threads + Sync, W: Watch + Sync>(
     let mut source = SureSource::new(Vec::from_slice(alloc, input)?, 4096);
     let mut out = SureSink::new(alloc, 4096);
     let mut err = SureSink::new(alloc, 4096);
+    let mut callers = Vec::new(alloc);
     let status = speak(
         rt,
         alloc,
@@ -36,8 +39,14 @@ pub(crate) fn run<R: Threads + Sync, W: Watch + Sync>(
         &mut out,
         &mut err,
         watch,
+        &mut callers,
     );
-    Ok(Left { status, out, err })
+    Ok(Left {
+        status,
+        out,
+        err,
+        callers: callers.len(),
+    })
 }
 
 fn words(alloc: Global, all: &[&str]) -> Result<Vec<String>, AllocError> {

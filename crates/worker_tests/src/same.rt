@@ -42,24 +42,24 @@ const SPOKEN: &[u8] =
 const TOLD: &[u8] =
     b"line 5: no path\nline 10: no path\nline 12: byte 0 at 1\nline 17: no path\nline 25: no path\nline 29: no path\n";
 
-// The workers, and the rounds that are swept beside a batch.
-const WORKERS: [(&str, &str); 10] = [
-    ("1", "0"),
-    ("1", "3"),
-    ("2", "0"),
-    ("2", "3"),
-    ("3", "0"),
-    ("3", "3"),
-    ("8", "0"),
-    ("8", "3"),
-    ("63", "0"),
-    ("63", "3"),
+// The workers, the rounds that are swept beside a batch, and how many callers that makes.
+const WORKERS: [(&str, &str, usize); 10] = [
+    ("1", "0", 1),
+    ("1", "3", 2),
+    ("2", "0", 2),
+    ("2", "3", 3),
+    ("3", "0", 3),
+    ("3", "3", 4),
+    ("8", "0", 8),
+    ("8", "3", 9),
+    ("63", "0", 63),
+    ("63", "3", 64),
 ];
 
 #[test]
 fn workers_change_nothing(rt: HostRuntime) -> Result<(), Fail> {
     let alloc = rt.alloc();
-    for (jobs, sweep) in WORKERS {
+    for (jobs, sweep, callers) in WORKERS {
         for places in ["1", "2", "256", "4096"] {
             let command = [
                 "speak",
@@ -88,8 +88,8 @@ fn workers_change_nothing(rt: HostRuntime) -> Result<(), Fail> {
                 "{jobs} workers, {places} places, {sweep} rounds"
             );
             assert_eq!(rt;
-                left.status,
-                1,
+                (left.status, left.callers),
+                (1, callers),
                 "{jobs} workers, {places} places, {sweep} rounds"
             );
         }

@@ -1,5 +1,5 @@
 use Rattle.std.specs.Prelude.{◌≡◌, ◌<◌, ◌+◌, ℕ, List, [], ◌∷◌, ◌++◌, get_or, length}
-use Rattle.std.proofs.Common.{sym, ◌∙◌, ap, arith, length-append, length-set}
+use Rattle.std.proofs.Common.{sym, ◌∙◌, arith, length-append, length-set}
 use Rattle.std.proofs.lemmas.List.{take_more, take_more_set}
 use Rattle.place_words.specs.declared.view.Read.{Read}
 use Rattle.place_words.specs.Seats.{fact_of, view_of}

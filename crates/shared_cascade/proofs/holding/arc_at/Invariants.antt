@@ -1,4 +1,4 @@
-use Rattle.std.specs.Prelude.{◌≡◌, ◌≤◌, ◌+◌, ℕ, List, get_or, length, take}
+use Rattle.std.specs.Prelude.{◌≡◌, ◌≤◌, ◌+◌, List, get_or, length, take}
 use Rattle.place_words.specs.declared.view.Read.{Read}
 use Rattle.place_words.specs.Modes.{seen_of}
 use Rattle.place_words.specs.Seats.{fact_of, mode_of, view_of}

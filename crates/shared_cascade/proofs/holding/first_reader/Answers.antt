@@ -1,5 +1,5 @@
-use Rattle.std.specs.Prelude.{◌≡◌, ◌<◌, ◌≤◌, ◌+◌, ◌-◌, ◌/◌, ◌^◌, ℕ, List, [], ◌++◌, get_or, length}
-use Rattle.std.proofs.Common.{refl, sym, ◌∙◌, ap, arith, length-append}
+use Rattle.std.specs.Prelude.{◌≡◌, ◌<◌, ◌+◌, ◌-◌, ◌/◌, ◌^◌, ℕ, [], ◌++◌, get_or, length}
+use Rattle.std.proofs.Common.{refl, arith, length-append}
 use Rattle.place_words.specs.Seats.{fact_of, view_of}
 use Rattle.state_tuples.specs.Codes.{no_arc}
 use Rattle.shared_cascade.proofs.Seen.{all_between, found_first, halving, lower_half, read_none, seen_before, then_read, upper_half}

@@ -1,8 +1,7 @@
-use Rattle.std.specs.Prelude.{◌≡◌, ◌<◌, ◌≤◌, ◌+◌, ◌-◌, ◌^◌, ℕ, List, Option, get_or, length}
+use Rattle.std.specs.Prelude.{◌≡◌, ◌<◌, ◌≤◌, ◌+◌, ◌-◌, ◌^◌, ℕ, List, get_or, length}
 use Rattle.place_words.specs.declared.view.Read.{Read}
 use Rattle.place_words.specs.Modes.{seen_of}
 use Rattle.place_words.specs.Seats.{fact_of, mode_of, view_of}
-use Rattle.state_tuples.specs.declared.tuples.TupleArc.{TupleArc}
 use Rattle.state_tuples.specs.Codes.{labels_word, no_arc}
 use Rattle.shared_cascade.specs.Held.{IsHeld, OfSeen, read_on}
 use Rattle.shared_cascade.proofs.Seen.{Between}

@@ -1,5 +1,5 @@
-use Rattle.std.specs.Prelude.{◌≡◌, ◌<◌, ℕ, List, [], ◌∷◌, get_or, length}
-use Rattle.std.proofs.Common.{◌∙◌, ap, arith}
+use Rattle.std.specs.Prelude.{◌<◌, ℕ, [], ◌∷◌, get_or, length}
+use Rattle.std.proofs.Common.{◌∙◌, arith}
 use Rattle.place_words.specs.Seats.{fact_of, view_of}
 use Rattle.place_table.specs.Entries.{seen_from}
 use Rattle.state_tuples.specs.Codes.{code_of, code_width, no_arc}

@@ -1,12 +1,11 @@
-use Rattle.std.specs.Prelude.{◌≡◌, ◌≢◌, ◌<◌, ◌≤◌, ◌+◌, ℕ, List, [], ◌∷◌, ◌++◌, filter, get_or, length, nat_eq, take}
-use Rattle.std.specs.Vec.{vec_capacity, vec_len}
-use Rattle.std.proofs.Common.{rules, sym, ◌∙◌, ap, subst, arith, length-append}
+use Rattle.std.specs.Prelude.{◌≡◌, ◌<◌, ℕ, [], ◌∷◌, ◌++◌, filter, get_or, length, nat_eq}
+use Rattle.std.specs.Vec.{vec_capacity}
+use Rattle.std.proofs.Common.{rules, sym, ◌∙◌, ap, arith, length-append}
 use Rattle.std.proofs.lemmas.List.{take_all}
 use Rattle.place_words.specs.Modes.{seen_of}
 use Rattle.place_words.specs.Seats.{fact_of, mode_of, view_of}
-use Rattle.state_tuples.specs.declared.tuples.TupleArc.{TupleArc}
 use Rattle.state_tuples.specs.Codes.{no_arc}
-use Rattle.state_tuples.proofs.InCodes.{none_before, one_more, readers}
+use Rattle.state_tuples.proofs.InCodes.{none_before, one_more}
 use Rattle.shared_cascade.specs.Held.{OfSeen}
 use Rattle.shared_cascade.proofs.Going.{on_any_error}
 use Rattle.shared_cascade.proofs.Seen.{earlier, fewer_put, none_from, read_none, seen_before, then_on, then_read}

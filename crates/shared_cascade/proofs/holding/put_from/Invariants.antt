@@ -1,4 +1,4 @@
-use Rattle.std.specs.Prelude.{◌≡◌, ◌<◌, ◌≤◌, ◌+◌, ◌*◌, ℕ, List, filter, get_or, length, nat_eq, take}
+use Rattle.std.specs.Prelude.{◌≡◌, ◌<◌, ◌≤◌, ◌*◌, List, filter, get_or, length, nat_eq, take}
 use Rattle.std.specs.Vec.{vec_capacity}
 use Rattle.place_words.specs.declared.view.Read.{Read}
 use Rattle.place_words.specs.Modes.{seen_of}

@@ -1,9 +1,9 @@
-use Rattle.std.specs.Prelude.{◌≡◌, ◌≢◌, ℕ, List, [], ◌∷◌, ◌++◌, Some, None, get_or}
-use Rattle.std.proofs.Common.{sym, ◌∙◌, ap, arith}
+use Rattle.std.specs.Prelude.{◌≡◌, List, [], ◌∷◌, ◌++◌, Some, None}
+use Rattle.std.proofs.Common.{sym, ◌∙◌, arith}
 use Rattle.place_words.specs.declared.view.Read.{Read}
 use Rattle.place_words.specs.Seats.{fact_of, view_of}
 use Rattle.place_table.specs.Entries.{seen_from}
-use Rattle.state_tuples.specs.Codes.{code_of, end_words}
+use Rattle.state_tuples.specs.Codes.{code_of}
 use Rattle.state_tuples.proofs.InCodes.{end_told, end_weight}
 use Rattle.shared_cascade.proofs.Seen.{an_end, no_end, of_one, seen_before, then_read}
 use Rattle.shared_cascade.proofs.holding.read_end.Goals as goal

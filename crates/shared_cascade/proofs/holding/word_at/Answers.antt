@@ -1,9 +1,9 @@
-use Rattle.std.specs.Prelude.{◌≡◌, ℕ, List}
+use Rattle.std.specs.Prelude.{ℕ, List}
 use Rattle.std.proofs.Common.{sym, ◌∙◌, ap, subst, arith}
 use Rattle.place_words.specs.declared.view.View.{View}
 use Rattle.place_words.specs.Places.{Agrees}
 use Rattle.place_words.specs.Modes.{IsReading, seen_of}
-use Rattle.place_words.specs.Seats.{fact_of, mode_of, view_of}
+use Rattle.place_words.specs.Seats.{fact_of, mode_of}
 use Rattle.place_table.proofs.Agreeing.{agreed_last}
 use Rattle.state_tuples.specs.Codes.{code_of}
 use Rattle.state_tuples.proofs.InCodes.{code_length}

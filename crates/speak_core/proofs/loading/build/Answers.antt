@@ -1,4 +1,7 @@
-use Rattle.std.proofs.Common.{List, map, ap}
+use Rattle.std.proofs.Common.{List, map, ap, subst, sym}
+use Rattle.weighted_relations.specs.Expressions.{Rel}
+use Rattle.weighted_relations.specs.Relations.{Cascade, Same}
+use Rattle.speak_core.specs.declared.speakers.Speaker.{Speaker}
 use Rattle.core_expressions.specs.Views.{expression_of}
 use Rattle.core_expressions.specs.declared.expressions.Expr.{Expr}
 use Rattle.speak_setup.specs.Setups.{names_of}
@@ -11,10 +14,8 @@ use Rattle.speak_core.proofs.loading.build.Goals as goal
 
 pub returns-in-Ok-clause-builds : goal.returns-in-Ok-clause-builds
 returns-in-Ok-clause-builds c =
-    rw c.loaded.ensures.speaker (
-    built c.args.mode (classifier_of c.in-Ok.normaliser) (verbaliser_of c.in-Ok.normaliser) _ _ _ _ (ap (λ (l : List Expr). map expression_of l) c.deref.ensures.value) (ap (λ (l : List Expr). map expression_of l) c.deref-2.ensures.value)
-    c.in-Ok.ensures.classifier c.in-Ok.ensures.verbaliser c.in-Ok.ensures.complete
-    )
+    built (plan_of c.args.mode (names_of c.args.setup.now) c.args.rules.now) c.loaded.result _ _ (ap (λ (x : Speaker). x.mode) c.loaded.ensures.speaker) (ap (λ (l : List Expr). map expression_of l) c.deref.ensures.value) (ap (λ (l : List Expr). map expression_of l) c.deref-2.ensures.value)
+    (subst (λ (x : Speaker). Same (classifier_of x.normaliser) (Cascade Rel (map expression_of c.deref.result.now))) (sym c.loaded.ensures.speaker) c.in-Ok.ensures.classifier) (subst (λ (x : Speaker). Same (verbaliser_of x.normaliser) (Cascade Rel (map expression_of c.deref-2.result.now))) (sym c.loaded.ensures.speaker) c.in-Ok.ensures.verbaliser) c.in-Ok.ensures.complete
 
 pub returns-in-Err-RewritesEmpty-clause-builds : goal.returns-in-Err-RewritesEmpty-clause-builds
 returns-in-Err-RewritesEmpty-clause-builds c =

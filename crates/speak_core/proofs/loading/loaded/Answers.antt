@@ -1,6 +1,7 @@
 use Rattle.std.proofs.Common.{refl}
 use Rattle.std.proofs.lemmas.List.Elements.{All-weaker}
 use Rattle.normaliser.specs.Searches.{IsCallerOf, IsNewCallerOf}
+use Rattle.speak_core.proofs.Batching.{new_run}
 use Rattle.speak_core.proofs.loading.loaded.Goals as goal
 
 pub returns-clause-ready : goal.returns-clause-ready
@@ -13,4 +14,5 @@ returns-clause-ready c = record {
   };
   by = refl;
   unswept = c.none_swept.ensures;
+  begun = new_run c.args.normaliser (record { callers = c.args.callers; settings = c.args.settings; swept = c.none_swept.result }) c.requires.new c.none_swept.ensures;
 }

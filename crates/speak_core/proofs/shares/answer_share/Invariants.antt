@@ -1,6 +1,7 @@
-use Rattle.std.proofs.Common.{◌≡◌, ◌+◌}
+use Rattle.std.proofs.Common.{◌≡◌, ◌+◌, map}
 use Rattle.normaliser.specs.Searches.{IsCallerOf}
-use Rattle.speak_core.specs.Parts.{says_of}
+use Rattle.speak_core.specs.Logs.{Grows}
+use Rattle.speak_core.specs.Parts.{says_of, tally_of}
 use Rattle.speak_core.proofs.Dealing.{HeardSoFar}
 use Rattle.speak_core.proofs.shares.answer_share.Given as goal
 
@@ -10,3 +11,4 @@ invariant-loop-line g l =
     × (l.number ≡ l.initial.share.first + l.line-index)
     × IsCallerOf l.speaker.normaliser l.share.caller
     × (l.share ≡ record l.initial.share { caller = l.share.caller })
+    × Grows l.speaker.normaliser l.initial.share.caller l.share.caller (map tally_of l.heard.items)

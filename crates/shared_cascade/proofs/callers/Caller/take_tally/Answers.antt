@@ -1,8 +1,7 @@
 use Rattle.std.specs.Prelude.{[]}
-use Rattle.std.proofs.Common.{refl, sym, ◌∙◌, ap, subst}
+use Rattle.std.proofs.Common.{refl, sym, ◌∙◌, ap}
 use Rattle.std.proofs.lemmas.List.{append-nil}
 use Rattle.place_words.specs.Seats.{view_of}
-use Rattle.shared_cascade.specs.Callers.{log_of}
 use Rattle.shared_cascade.proofs.callers.Caller.take_tally.Goals as goal
 
 pub returns-clause-since : goal.returns-clause-since

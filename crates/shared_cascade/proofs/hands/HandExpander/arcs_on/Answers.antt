@@ -3,7 +3,7 @@ use Rattle.std.specs.Vec.{vec_capacity}
 use Rattle.std.proofs.Common.{refl, ◌∙◌, ap, subst, arith, inl, inr}
 use Rattle.std.proofs.lemmas.Result.{on_err_weaker, on_ok_weaker}
 use Rattle.state_tuples.specs.Codes.{key}
-use Rattle.shared_cascade.specs.Callers.{FoundFor, HasLooked, MadeFor, MissedFor, StaysAt, Visited, cascades_in, grammars_of, places_in}
+use Rattle.shared_cascade.specs.Callers.{FoundFor, MadeFor, MissedFor, Visited, cascades_in, grammars_of, places_in}
 use Rattle.shared_cascade.specs.Episodes.{Episode, Missed}
 use Rattle.shared_cascade.specs.HandLaws.{own_numbers}
 use Rattle.shared_cascade.specs.Hands.{HadNoRoom, ShortEpisode, Wanting}
