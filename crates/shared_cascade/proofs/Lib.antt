@@ -7,3 +7,4 @@ pub mod Rounds
 pub mod Seen
 pub mod Keeping
 pub mod Finding
+pub mod Sent

@@ -3,35 +3,11 @@ use denote.Param.Send.{IsSend, recorded_send, sendable, struct_send}
 use denote.Struct.Declared.{shape}
 use denote.Struct.Struct.{Struct}
 use Rattle.std.proofs.Crossing.{crosses}
-use Rattle.place_words.proofs.words.Seat.TheSendSync as seat
+use Rattle.shared_cascade.proofs.Sent.{caller_field}
 use Rattle.shared_cascade.proofs.sweeping.Swept.TheSendSync as swept
-use Rattle.shared_cascade.specs.contracts.callers.Caller as caller
-use Rattle.shared_cascade.specs.contracts.facts.Grammars as grammars
-use Rattle.shared_cascade.specs.contracts.facts.GrammarsFact.TheImpl.{ghosts}
 use Rattle.speak_core.specs.contracts.batches.Heard as heard
 use Rattle.speak_core.specs.contracts.shares.Done as done
 use Rattle.speak_core.specs.contracts.shares.Share as share
-
-pub caller_field : IsSend (Struct (shape caller.the_type))
-caller_field = struct_send (shape caller.the_type) (
-  seat.the_field_send grammars.the_row grammars.the_row ghosts,
-  (
-    search (crosses, sendable) depth 60 fits 20000,
-    (
-      search (crosses, sendable) depth 60 fits 20000,
-      (
-        search (crosses, sendable) depth 60 fits 20000,
-        (
-          search (crosses, sendable) depth 60 fits 20000,
-          (
-            search (crosses, sendable) depth 60 fits 20000,
-            tt,
-          ),
-        ),
-      ),
-    ),
-  ),
-)
 
 pub heard_send : IsSend heard.the_row
 heard_send = search (crosses, sendable) depth 60 fits 20000

@@ -1,59 +1,14 @@
 //! Runs whose devices fail, or give and take so many bytes at a call.
 
-use crate::speaking::{TOY_CLASSIFY, TOY_SETUP, TOY_VERBALIZE, files_of, words};
-use norm_base::{MemShelf, MemSink, MemSource};
-use speak_core::{NoWatch, speak};
+use crate::speaking::{TOY_CLASSIFY, TOY_SETUP, TOY_VERBALIZE, run_on};
 use std::alloc::{AllocError, Global};
 use std::test::Fail;
-use std::thread::Threads;
 
 const SPEAK: [&str; 3] = ["speak", "--setup", "s"];
 
 const REPORT: [&str; 4] = ["speak", "--setup", "s", "--report"];
 
 const CHECK: [&str; 5] = ["speak", "--setup", "s", "--mode", "check"];
-
-// What a run left: its status, its output and its errors.
-#[derive(Drop)]
-struct Left {
-    status: u8,
-    out: MemSink,
-    err: MemSink,
-}
-
-// A run of these words. The source and the sinks give and take so many bytes at a call, and these calls fail: the shelf's, the source's, the
-// output's and the errors'.
-fn run<R: Threads + Sync>(
-    rt: &R,
-    alloc: Global,
-    command: &[&str],
-    files: &[(&str, &[u8])],
-    input: &[u8],
-    piece: usize,
-    fails: &[&[u64]; 4],
-) -> Result<Left, AllocError> {
-    let words = words(alloc, command)?;
-    let piece = piece.max(1);
-    let files = files_of(alloc, files)?;
-    let mut shelf = MemShelf::new(alloc, files, Vec::from_slice(alloc, fails[0])?);
-    let input = Vec::from_slice(alloc, input)?;
-    let mut source = MemSource::new(input, piece, Vec::from_slice(alloc, fails[1])?);
-    let mut out = MemSink::new(alloc, piece, Vec::from_slice(alloc, fails[2])?);
-    let mut err = MemSink::new(alloc, piece, Vec::from_slice(alloc, fails[3])?);
-    let mut callers = Vec::new(alloc);
-    let status = speak(
-        rt,
-        alloc,
-        &words,
-        &mut shelf,
-        &mut source,
-        &mut out,
-        &mut err,
-        &NoWatch,
-        &mut callers,
-    );
-    Ok(Left { status, out, err })
-}
 
 // So many copies of a line.
 fn copies(alloc: Global, line: &[u8], count: usize) -> Result<Vec<u8>, AllocError> {
@@ -134,7 +89,7 @@ fn batches_before_a_stop_are_written(rt: HostRuntime) -> Result<(), Fail> {
     let input = copies(alloc, b"rain .\n", 2050)?;
     let all = copies(alloc, b"rain\n", 2050)?;
     for (command, piece, fails, size, err, status) in RUNS {
-        let left = run(&rt, alloc, command, &files, &input, piece, &fails)?;
+        let left = run_on(&rt, alloc, command, &files, &input, [piece; 3], &fails)?;
         assert_eq!(rt; left.status, status);
         assert_eq!(rt; left.out.bytes().len(), size);
         assert!(rt; all.starts_with(left.out.bytes()));
@@ -162,7 +117,7 @@ fn a_long_line_is_kept_until_its_end(rt: HostRuntime) -> Result<(), Fail> {
     wanted.extend_from_slice(&copies(alloc, b"a", 16_000)?)?;
     wanted.extend_from_slice(b"c\n\nc\n")?;
     for piece in [1, 7, 4096, 65_536] {
-        let left = run(&rt, alloc, &command, &files, &input, piece, &[&[]; 4])?;
+        let left = run_on(&rt, alloc, &command, &files, &input, [piece; 3], &[&[]; 4])?;
         assert_eq!(rt; left.out.bytes(), wanted.as_slice());
         assert_eq!(rt; left.err.bytes(), b"".as_slice());
         assert_eq!(rt; left.status, 0);
@@ -188,7 +143,7 @@ fn fronts_of_files_are_refused(rt: HostRuntime) -> Result<(), Fail> {
             ("g.grm", &DATES[..size]),
             ("v.grm", DATE_WORDS),
         ];
-        let left = run(&rt, alloc, &CHECK, &files, b"", 7, &[&[]; 4])?;
+        let left = run_on(&rt, alloc, &CHECK, &files, b"", [7; 3], &[&[]; 4])?;
         assert_eq!(rt; left.status == 0, size == DATES.len(), "{size} bytes");
         assert_eq!(rt; left.status == 3, size < DATES.len(), "{size} bytes");
         assert_eq!(rt;
@@ -204,7 +159,7 @@ fn fronts_of_files_are_refused(rt: HostRuntime) -> Result<(), Fail> {
             ("toy_verbalize.grm", TOY_VERBALIZE),
         ];
         let is_whole = size + 1 >= TOY_SETUP.len();
-        let left = run(&rt, alloc, &CHECK, &files, b"", 7, &[&[]; 4])?;
+        let left = run_on(&rt, alloc, &CHECK, &files, b"", [7; 3], &[&[]; 4])?;
         assert_eq!(rt; left.status == 0, is_whole, "{size} bytes");
         assert_eq!(rt; left.status == 3, !is_whole, "{size} bytes");
         assert_eq!(rt; left.out.bytes().is_empty(), !is_whole, "{size} bytes");

@@ -17,13 +17,13 @@ const BOTH: &[u8] =
 
 // What a run left: its status, its output and its errors.
 #[derive(Drop)]
-struct Left {
-    status: u8,
-    out: MemSink,
-    err: MemSink,
+pub(crate) struct Left {
+    pub(crate) status: u8,
+    pub(crate) out: MemSink,
+    pub(crate) err: MemSink,
 }
 
-pub(crate) fn words(alloc: Global, all: &[&str]) -> Result<Vec<String>, AllocError> {
+fn words(alloc: Global, all: &[&str]) -> Result<Vec<String>, AllocError> {
     let mut words = Vec::new(alloc);
     for word in all {
         words.push(String::from_str(alloc, *word)?)?;
@@ -31,10 +31,7 @@ pub(crate) fn words(alloc: Global, all: &[&str]) -> Result<Vec<String>, AllocErr
     Ok(words)
 }
 
-pub(crate) fn files_of(
-    alloc: Global,
-    files: &[(&str, &[u8])],
-) -> Result<Vec<(Name, Vec<u8>)>, AllocError> {
+fn files_of(alloc: Global, files: &[(&str, &[u8])]) -> Result<Vec<(Name, Vec<u8>)>, AllocError> {
     let mut all = Vec::new(alloc);
     for (name, bytes) in files {
         all.push((
@@ -66,25 +63,50 @@ fn run<R: Threads + Sync>(
     files: &[(&str, &[u8])],
     input: &[u8],
 ) -> Result<Left, AllocError> {
-    let source = MemSource::new(Vec::from_slice(alloc, input)?, 2, Vec::new(alloc));
-    let files = files_of(alloc, files)?;
-    run_with(rt, alloc, command, files, source, &[&[], &[], &[]])
+    run_on(rt, alloc, command, files, input, [2, 1, 5], &[&[]; 4])
 }
 
-// A run of these words, on devices whose calls of these numbers fail: the shelf's, the output's and the errors'.
+// A run of these words over these files. The source, the output and the errors give or take so many bytes at a call, and these calls fail: the
+// shelf's, the source's, the output's and the errors'.
+pub(crate) fn run_on<R: Threads + Sync>(
+    rt: &R,
+    alloc: Global,
+    command: &[&str],
+    files: &[(&str, &[u8])],
+    input: &[u8],
+    pieces: [usize; 3],
+    fails: &[&[u64]; 4],
+) -> Result<Left, AllocError> {
+    let input = Vec::from_slice(alloc, input)?;
+    let source = MemSource::new(input, pieces[0].max(1), Vec::from_slice(alloc, fails[1])?);
+    let files = files_of(alloc, files)?;
+    let others = [fails[0], fails[2], fails[3]];
+    run_with(
+        rt,
+        alloc,
+        command,
+        files,
+        source,
+        [pieces[1], pieces[2]],
+        &others,
+    )
+}
+
+// A run of these words. The output and the errors take so many bytes at a call, and these calls fail: the shelf's, the output's and the errors'.
 fn run_with<R: Threads + Sync, S: Source + Drop>(
     rt: &R,
     alloc: Global,
     command: &[&str],
     files: Vec<(Name, Vec<u8>)>,
     source: S,
+    pieces: [usize; 2],
     fails: &[&[u64]; 3],
 ) -> Result<Left, AllocError> {
     let words = words(alloc, command)?;
     let mut shelf = MemShelf::new(alloc, files, Vec::from_slice(alloc, fails[0])?);
     let mut source = source;
-    let mut out = MemSink::new(alloc, 1, Vec::from_slice(alloc, fails[1])?);
-    let mut err = MemSink::new(alloc, 5, Vec::from_slice(alloc, fails[2])?);
+    let mut out = MemSink::new(alloc, pieces[0].max(1), Vec::from_slice(alloc, fails[1])?);
+    let mut err = MemSink::new(alloc, pieces[1].max(1), Vec::from_slice(alloc, fails[2])?);
     let mut callers = Vec::new(alloc);
     let status = speak(
         rt,
@@ -801,7 +823,8 @@ fn a_chain_of_33_files_is_refused(rt: HostRuntime) -> Result<(), Fail> {
         &CLASSIFY,
         chain(alloc)?,
         source,
-        &[&[], &[], &[]],
+        [1, 5],
+        &[&[]; 3],
     )?;
     assert_eq!(rt;
         left.err.bytes(),
@@ -995,12 +1018,9 @@ last rain eighty six january twenty seventh twenty five\n";
 fn runs_end_with_their_status(rt: HostRuntime) -> Result<(), Fail> {
     let alloc = rt.alloc();
     for (command, fails, out, err, status) in RUNS {
-        let grammar = b"export MAIN = \"a\" : \"b\";";
-        let files = files_of(alloc, &[("s", SETUP), ("g.grm", grammar)])?;
-        let input = Vec::from_slice(alloc, b"a\nb\n")?;
-        let source = MemSource::new(input, 2, Vec::from_slice(alloc, fails[1])?);
-        let others = [fails[0], fails[2], fails[3]];
-        let left = run_with(&rt, alloc, command, files, source, &others)?;
+        let grammar = b"export MAIN = \"a\" : \"b\";".as_slice();
+        let files = [("s", SETUP), ("g.grm", grammar)];
+        let left = run_on(&rt, alloc, command, &files, b"a\nb\n", [2, 1, 5], &fails)?;
         assert_eq!(rt; left.out.bytes(), out);
         assert_eq!(rt; left.err.bytes(), err);
         assert_eq!(rt; left.status, status);
@@ -1282,7 +1302,7 @@ fn an_input_past_its_limit_is_refused(rt: HostRuntime) -> Result<(), Fail> {
     let alloc = rt.alloc();
     let files = files_of(alloc, &[("s", SETUP), ("g.grm", b"export MAIN = \"b\";")])?;
     let source = Long { left: 268_435_457 };
-    let left = run_with(&rt, alloc, &CLASSIFY, files, source, &[&[], &[], &[]])?;
+    let left = run_with(&rt, alloc, &CLASSIFY, files, source, [1, 5], &[&[]; 3])?;
     assert_eq!(rt; left.status, 6);
     assert_eq!(rt; left.out.bytes(), b"".as_slice());
     assert_eq!(rt; left.err.bytes(), b"input too long\n".as_slice());

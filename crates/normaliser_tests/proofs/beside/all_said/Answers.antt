@@ -4,7 +4,7 @@ use denote.Struct.Declared.{shape}
 use denote.Struct.Struct.{Struct}
 use Rattle.std.proofs.Crossing.{crosses}
 use Rattle.normaliser_tests.specs.contracts.beside.Worker as worker
-use Rattle.normaliser_tests.proofs.Sent.{caller_field}
+use Rattle.shared_cascade.proofs.Sent.{caller_field}
 use Rattle.normaliser_tests.proofs.beside.all_said.Goals as goal
 
 -- one thread may hand another a caller with its work
