@@ -8,3 +8,4 @@ pub mod Seen
 pub mod Keeping
 pub mod Finding
 pub mod Sent
+pub mod Alone
