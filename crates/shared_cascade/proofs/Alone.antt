@@ -1,6 +1,6 @@
 -- Where one seat was opened, the table is empty at first, and later holds what that seat left there. So its first look finds nothing.
 use Rattle.std.specs.Prelude.{◌≡◌, ◌≢◌, ◌<◌, ℕ, ◌+◌, ◌-◌, List, [], ◌∷◌, ◌++◌, Bool, true, false, Option, Some, None, if◌then◌else◌, take}
-use Rattle.std.proofs.Common.{refl, sym, ◌∙◌, ap, subst, arith, append_assoc, inl, inr, eq-eqb, ne_eqb}
+use Rattle.std.proofs.Common.{refl, sym, ◌∙◌, ap, subst, arith, append_assoc, inl, inr, eq-eqb, eqb, ne_eqb}
 use mathlib.Core.Logic.{dite}
 use native.Mathlib.Decide.{ℕ_discrete}
 use Rattle.place_words.specs.declared.view.Entry.{Entry}
@@ -10,6 +10,7 @@ use Rattle.place_words.specs.declared.view.Read.{Read}
 use Rattle.place_words.specs.Places.{state_index, state_of}
 use Rattle.place_words.specs.Seats.{view_of}
 use Rattle.place_words.specs.Steps.{after}
+use Rattle.place_words.proofs.Histories.{skip}
 use Rattle.place_table.specs.declared.answers.Found.{Found}
 use Rattle.place_table.specs.declared.answers.Found.TheVariants.{Other, Claimed, Empty as Nothing}
 use Rattle.place_table.specs.Entries.{reads_of}
@@ -26,8 +27,12 @@ use Rattle.shared_cascade.specs.Since.{AreParts, counted}
 use Rattle.shared_cascade.specs.Tallies.{no_tally, one_more, with_all, with_outcome}
 
 -- the entries of a lone seat, from words on where no place is shown or claimed and nobody is counted
-abbrev pub FromEmpty : List Entry → Type 0
+abbrev FromEmpty : List Entry → Type 0
 FromEmpty es = (f : ℕ → ℕ) × ((p : ℕ) → f (state_index p) ≡ 0) × FoundInTurn f es
+
+-- a word where an entry names it
+named : (i k a b : ℕ) → i ≡ k → (if eqb i k then a else b) ≡ a
+named i k a b same = ap (λ (t : Bool). if t then a else b) (eq-eqb i k same)
 
 -- reads after a knock, and then the leave, which takes back what the knock added
 left_again : (f : ℕ → ℕ) (p w : ℕ) (rs : List Read) (rest : List Entry) → f (state_index p) ≡ 1 → ((q : ℕ) → q ≢ p → f (state_index q) ≡ 0)
@@ -35,16 +40,16 @@ left_again : (f : ℕ → ℕ) (p w : ℕ) (rs : List Read) (rest : List Entry) 
 left_again f p w [] rest here there turn = (
   after 0 f (Leave p w false),
   λ q. dite (ℕ_discrete q p)
-      (λ same. ap (λ (b : Bool). if b then w - 1 else f (state_index q)) (eq-eqb (state_index q) (state_index p) (ap state_index same)) ∙ (let found : w ≡ f (state_index p) = turn.0 in omega (arith, here)))
-      (λ other. ap (λ (b : Bool). if b then w - 1 else f (state_index q)) (ne_eqb (state_index q) (state_index p) (λ e. other (omega arith))) ∙ there q other),
+      (λ same. named (state_index q) (state_index p) (w - 1) (f (state_index q)) (ap state_index same) ∙ (let found : w ≡ f (state_index p) = turn.0 in omega (arith, here)))
+      (λ other. skip (state_index q) (state_index p) (w - 1) (f (state_index q)) (λ e. other (omega arith)) ∙ there q other),
   turn.1,
 )
 left_again f p w (r ∷ rs) rest here there turn = left_again f p w rs rest here there turn.1
 
 visited : (p w w' : ℕ) (rs : List Read) (es rest : List Entry) → es ≡ Knock p w ∷ (reads_of p rs ++ Leave p w' false ∷ []) → FromEmpty (es ++ rest) → FromEmpty rest
 visited p w w' rs es rest is h = let (f, empty, turn) = subst (λ l. FromEmpty (l ++ rest)) is h in left_again (after 0 f (Knock p w)) p w' rs rest
-    (ap (λ (b : Bool). if b then w + 1 else f (state_index p)) (eq-eqb (state_index p) (state_index p) refl) ∙ (let none = empty p in let found : w ≡ f (state_index p) = turn.0 in omega arith))
-    (λ q other. ap (λ (b : Bool). if b then w + 1 else f (state_index q)) (ne_eqb (state_index q) (state_index p) (λ e. other (omega arith))) ∙ empty q)
+    (named (state_index p) (state_index p) (w + 1) (f (state_index p)) refl ∙ (let none = empty p in let found : w ≡ f (state_index p) = turn.0 in omega arith))
+    (λ q other. skip (state_index q) (state_index p) (w + 1) (f (state_index q)) (λ e. other (omega arith)) ∙ empty q)
     turn.1
 
 passed : (key : List ℕ) (p : ℕ) (x : Found) (es rest : List Entry) → Passed key p x es → FromEmpty (es ++ rest) → FromEmpty rest
