@@ -21,9 +21,9 @@ ShortEpisode cs n key most o es = Episode cs n key o es × (o ≡ Shown → read
 abbrev pub HadNoRoom : List Cascaded → Tuple → ℕ → ℕ → Type 0
 HadNoRoom cs t label room = (c : Cascaded) → Contains cs c → IsOf c t → room < length (moves_on c t label)
 
--- Why memory was wanting: the look found nothing; or there was an episode, and if its look was Shown, the arcs had no room.
+-- Why memory was wanting: the look found nothing, and what it sought was to be made; or there was an episode, and the arcs had no room.
 abbrev pub Wanting : List Cascaded → ℕ → List ℕ → Type 0 → Outcome → List Entry → Type 0
-Wanting cs n key NoRoom o es = Missed n key es ⊎ (Episode cs n key o es × (o ≡ Shown → NoRoom))
+Wanting cs n key NoRoom o es = Missed n key es ⊎ (Episode cs n key o es × NoRoom)
 
 -- the same table and the same caller
 pub record IsStill (x y : Hand) : Type 0 where

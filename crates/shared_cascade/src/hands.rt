@@ -1,7 +1,8 @@
 // A caller as an expander.
 
-ghost use Rattle.std.specs.Prelude.{◌≡◌, OnErr, OnOk, nat_eq, []};
+ghost use Rattle.std.specs.Prelude.{◌≡◌, ◌<◌, OnErr, OnOk, nat_eq, [], length};
 ghost use Rattle.std.specs.List.{filter};
+ghost use Rattle.std.specs.Vec.{vec_capacity};
 
 use crate::callers::Caller;
 use crate::shared::Shared;
@@ -14,8 +15,8 @@ use std::alloc::AllocError;
 /// Each call makes one look. Where it finds the code it reads, in place, what it wants of it: the arcs of the label, whose first it finds by
 /// halving, or the final weight. Where it finds nothing, the expansion is made, and there is one attempt to publish it. Beside what every
 /// expander owes, the clauses say that a call adds one episode to the log, for the key of its tuple; where memory is wanting it may be a look
-/// alone. Where the look is Shown, a call that gives `k` arcs has read 38 and 6 times `k` words at most, and one that gives a final weight 30;
-/// memory is wanting only where `into` had no room for the arcs.
+/// alone that found nothing. Else memory is wanting only where `into` had no room for the arcs. Where the look is Shown, a call that gives `k`
+/// arcs has read 38 and 6 times `k` words at most, and one that gives a final weight 30.
 #[derive(Drop)]
 pub struct Hand<'a> {
     pub shared: &'a Shared,
@@ -107,6 +108,7 @@ impl<'a> Expander for Hand<'a> {
 fn put_readers(arcs: &[TupleArc], label: u16, into: &mut Vec<TupleArc>) -> Result<(), AllocError>
     ensures arcs { OnOk result (into.new.items ≡ filter (λ a. nat_eq a.input label) arcs.now) }
     ensures none { OnErr result (into.new.items ≡ []) }
+    ensures full { OnErr result (vec_capacity into.old < length (filter (λ a. nat_eq a.input label) arcs.now)) }
 {
     into.clear();
     for arc in arcs {

@@ -7,7 +7,7 @@ use Rattle.shared_cascade.specs.Callers.{FoundFor, MadeFor, MissedFor, Visited, 
 use Rattle.shared_cascade.specs.Episodes.{Episode, Missed}
 use Rattle.shared_cascade.specs.HandLaws.{own_numbers}
 use Rattle.shared_cascade.specs.Hands.{HadNoRoom, ShortEpisode, Wanting}
-use Rattle.shared_cascade.proofs.Finding.{expanded, no_room, whole}
+use Rattle.shared_cascade.proofs.Finding.{Expanded, expanded, no_room, whole}
 use Rattle.shared_cascade.proofs.Going.{found_part, found_so, gave_up, gave_up_late, goes_on, made_part, missed_part, on_any_error, on_any_value}
 use Rattle.shared_cascade.proofs.Handing.{arcs_owed}
 use Rattle.shared_cascade.proofs.Keeping.{adds_so, at_rest, readied}
@@ -139,7 +139,7 @@ returns-in-Held-clause-wanting c =
     on_err_weaker c.take_arcs.result
     (λ h. (let x = expanded s old c.visit.new.caller t c.requires.ready c.requires.known at (λ end arcs. vec_capacity c.clear.new.self < length (filter (λ a. nat_eq a.input c.args.label) arcs)) h in
     let none = subst (HadNoRoom (cascades_in s) t c.args.label) c.clear.ensures.capacity (no_room s t (own_numbers c.args.self.now) c.args.label (vec_capacity c.clear.new.self) x) in
-    adds_so old c.take_arcs.new.caller (FoundFor s t most) (Wanting (cascades_in s) (places_in s) (key t) (HadNoRoom (cascades_in s) t c.args.label (vec_capacity c.args.into.now))) (λ o es k. inr (found_so s t most o es k, λ same. none)) w.adds))
+    adds_so old c.take_arcs.new.caller (FoundFor s t most) (Wanting (cascades_in s) (places_in s) (key t) (HadNoRoom (cascades_in s) t c.args.label (vec_capacity c.args.into.now))) (λ o es k. inr (found_so s t most o es k, none)) w.adds))
     e.full
 
 pub returns-in-Made-clause-arcs : goal.returns-in-Made-clause-arcs
@@ -225,4 +225,11 @@ returns-in-Made-clause-wanting c =
     let old = c.args.self.now.caller.now in
     let v = subst (Visited s old c.visit.new.caller t) c.in-Made.is c.in_ok-visit.ensures.visited in
     let looked = v.0 in
-    on_any_error c.put_readers.result (adds_so old c.visit.new.caller (MadeFor s old t) (Wanting (cascades_in s) (places_in s) (key t) (HadNoRoom (cascades_in s) t c.args.label (vec_capacity c.args.into.now))) (λ o es h. inr (h.0, λ same. absurd (h.1 same))) looked.adds)
+    let m = v.1 in
+    on_err_weaker c.put_readers.result
+    (λ h. (let full = subst (λ arcs. vec_capacity c.clear.new.self < length (filter (λ a. nat_eq a.input c.args.label) arcs)) c.deref.ensures.value h in
+    let x : Expanded s t (λ end arcs. vec_capacity c.clear.new.self < length (filter (λ a. nat_eq a.input c.args.label) arcs)) =
+    record { c = m.0; among = m.1; known = m.2; arcs = c.visit.new.caller.arcs.items; ordered = m.3; holds = full } in
+    let none = subst (HadNoRoom (cascades_in s) t c.args.label) c.clear.ensures.capacity (no_room s t (own_numbers c.args.self.now) c.args.label (vec_capacity c.clear.new.self) x) in
+    adds_so old c.visit.new.caller (MadeFor s old t) (Wanting (cascades_in s) (places_in s) (key t) (HadNoRoom (cascades_in s) t c.args.label (vec_capacity c.args.into.now))) (λ o es k. inr (k.0, none)) looked.adds))
+    c.put_readers.ensures.full
