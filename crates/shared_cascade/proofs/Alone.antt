@@ -23,7 +23,7 @@ use Rattle.shared_cascade.specs.declared.tallies.Outcome.TheVariants.{Shown, Pub
 use Rattle.shared_cascade.specs.declared.tallies.Tally.{Tally}
 use Rattle.shared_cascade.specs.Callers.{log_of, seats_of}
 use Rattle.shared_cascade.specs.Episodes.{Episode, Episodes}
-use Rattle.shared_cascade.specs.Since.{AreParts, counted}
+use Rattle.shared_cascade.specs.Since.{AreParts, IsTally, counted}
 use Rattle.shared_cascade.specs.Tallies.{no_tally, one_more, with_all, with_outcome}
 
 -- the entries of a lone seat, from words on where no place is shown or claimed and nobody is counted
@@ -152,8 +152,15 @@ pub none_looked : (cs : List Cascaded) (n : ℕ) (os : List Outcome) (es : List 
 none_looked cs n [] es t h is none = h
 none_looked cs n (o ∷ os) es t h is none = absurd (let some = looks_counted o os t is in omega arith)
 
--- the first episodes of all that a lone caller has done, if there are any, have a look that was Absent
-pub looked_first : (c : Caller) → seats_of c ≡ 1 → (cs : List Cascaded) (n : ℕ) (os : List Outcome) (es rest : List Entry) (t : Tally)
-    → Episodes cs n os es → t ≡ with_all os no_tally → log_of c ≡ es ++ rest → 0 < t.looks → 0 < t.absent
-looked_first c one cs n [] es rest t h is log some = absurd (let none : t.looks ≡ 0 = ap (λ (u : Tally). u.looks) is in omega arith)
-looked_first c one cs n (o ∷ os) es rest t h is log some = absent_counted o os t (first_of_episodes c one cs n o os es rest h log) is
+-- where looks were counted, and the first outcome isn't Shown, one was absent
+some_absent : (os : List Outcome) (t : Tally) → ((o : Outcome) (ps : List Outcome) → os ≡ o ∷ ps → o ≢ Shown) → t ≡ with_all os no_tally → 0 < t.looks → 0 < t.absent
+some_absent [] t first is some = absurd (let none : t.looks ≡ 0 = ap (λ (u : Tally). u.looks) is in omega arith)
+some_absent (o ∷ os) t first is some = absent_counted o os t (first o os refl) is
+
+-- So it is of a tally of the first that a lone caller has done.
+module _ (c : Caller) (one : seats_of c ≡ 1) (cs : List Cascaded) (n : ℕ) where
+  pub looked_first : (os : List Outcome) (es rest : List Entry) (t : Tally) → Episodes cs n os es → t ≡ with_all os no_tally → log_of c ≡ es ++ rest → 0 < t.looks → 0 < t.absent
+  looked_first os es rest t h is log = some_absent os t (λ o ps same. first_of_episodes c one cs n o ps es rest (subst (λ l. Episodes cs n l es) same h) log) is
+
+  pub tallied_first : (es rest : List Entry) (t : Tally) → IsTally cs n es t → log_of c ≡ es ++ rest → 0 < t.looks → 0 < t.absent
+  tallied_first es rest t h log = some_absent (counted h.parts) t (λ o ps same. first_of_parts c one cs n h.parts o ps es rest h.are same log) h.tally

@@ -20,7 +20,7 @@ pub struct Caller {
 }
 
 impl Caller {
-    ghost use Rattle.std.specs.Prelude.{◌≡◌, ◌++◌, List, IfOk};
+    ghost use Rattle.std.specs.Prelude.{◌≡◌, ◌<◌, ◌++◌, List, IfOk, []};
     ghost use Rattle.place_words.specs.declared.view.Entry.{Entry};
     ghost use Rattle.shared_cascade.specs.declared.shared.Shared.{Shared};
     ghost use Rattle.shared_cascade.specs.Callers.{IsReady, cascades_in, log_before, log_of, places_in, seats_of};
@@ -49,6 +49,7 @@ impl Caller {
         ensures tally { result ≡ self.old.tally }
         ensures since { (s : Shared) → IsReady s self.old → (es : List Entry) × (log_of self.old ≡ log_before self.old ++ es) × IsTally (cascades_in s) (places_in s) es result }
         ensures alone { (s : Shared) → IsReady s self.old → seats_of self.old ≡ 1 → result.no_place ≡ 0 }
+        ensures first { (s : Shared) → IsReady s self.old → seats_of self.old ≡ 1 → log_before self.old ≡ [] → 0 < result.looks → 0 < result.absent }
         ensures anew { self.new.tally ≡ no_tally }
         ensures seat { self.new.seat ≡ self.old.seat }
         ensures begun { log_before self.new ≡ log_of self.old }
