@@ -9,6 +9,9 @@ use state_table::{StateSet, StateTable};
 use std::alloc::{AllocError, Global};
 use std::marker::Model;
 
+/// For how many states there is room from the beginning.
+const USUAL_STATES: usize = 64;
+
 /// States with their numbers, from 0.
 ///
 /// Texts that are written in different orders meet again where fields are left, so such a state is looked up. Each other state belongs to
@@ -35,15 +38,15 @@ impl Model for Numbered {
 }
 
 impl Numbered {
-    /// No states.
-    pub(crate) fn new(alloc: Global) -> Numbered
-        ensures value { result ≡ [] }
+    /// No states, and room for as many as most records have.
+    pub(crate) fn new(alloc: Global) -> Result<Numbered, AllocError>
+        ensures value { IfOk result (λ s. s ≡ []) }
     {
-        Numbered {
-            all: Vec::new(alloc),
+        Ok(Numbered {
+            all: Vec::with_capacity(alloc, USUAL_STATES)?,
             meeting: StateTable::new(alloc),
             numbers: Vec::new(alloc),
-        }
+        })
     }
 
     /// How many states have a number.

@@ -53,7 +53,7 @@ impl OrderSource {
         let mut text = Vec::from_slice(alloc, r.class.bytes())?;
         text.push(b'|')?;
         let root = add(&mut table, text, inner, false)?;
-        let mut states = Numbered::new(alloc);
+        let mut states = Numbered::new(alloc)?;
         let end = states.put(State::End)?;
         let start = put_whole(alloc, &mut states, &table, root, end)?;
         Ok(OrderSource {
