@@ -24,6 +24,7 @@ const MOST_PASSED: usize = 4096;
 
 /// What a move leads to is met, with the source at a state. Where one edge alone leads on from there, the node that lies behind such edges is
 /// met in its place.
+#[inline(always)]
 pub(crate) fn meet_along<X: Expander>(
     x: &X,
     source: &Fst,

@@ -56,6 +56,7 @@ impl Lists {
     }
 
     /// A node waits.
+    #[inline(always)]
     pub(crate) fn put(&mut self, number: usize, turn: Turn) -> Result<(), AllocError>
         ensures { IfOk result (λ _. IsPermutation (number ∷ self.old) self.new) }
     {

@@ -184,7 +184,7 @@ fn chain(heads: &mut Vec<usize>, links: &mut Vec<usize>, slot: usize) -> Result<
     Ok(())
 }
 
-/// Hangs all nodes on new chains, twice as many, where there is no longer one for each.
+/// Makes more chains where there is no longer one for each node.
 fn make_room(
     nodes: &[Node],
     heads: &mut Vec<usize>,
@@ -193,6 +193,16 @@ fn make_room(
     if nodes.len() < heads.len() {
         return Ok(());
     }
+    hang_anew(nodes, heads, links)
+}
+
+/// Hangs all nodes on new chains, twice as many. It is seldom called.
+#[cold]
+fn hang_anew(
+    nodes: &[Node],
+    heads: &mut Vec<usize>,
+    links: &mut Vec<usize>,
+) -> Result<(), AllocError> {
     let chains = heads.len().saturating_mul(2).saturating_add(65);
     heads.clear();
     links.clear();

@@ -57,6 +57,7 @@ impl Relaxed {
 
     /// A node is met by a way of this weight and output more. Where the way is less than its best so far, it takes the place of this and
     /// the node waits.
+    #[inline(always)]
     pub(crate) fn relax(
         &mut self,
         node: Node,

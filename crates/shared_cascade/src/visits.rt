@@ -34,6 +34,7 @@ pub(crate) enum Visit {
 impl Shared {
     /// Looks for the expansion of a tuple. Where the table has it, the caller stays at its place. Where it has none it is made, and published
     /// if there is room for it.
+    #[inline(always)]
     pub(crate) fn visit(&self, caller: &mut Caller, t: &Tuple) -> Result<Visit, AllocError>
         requires rest { IsAtRest self.now caller.old }
         requires known { IsKnown (cascades_in self.now) t.now }
@@ -103,7 +104,8 @@ impl Shared {
         caller.tally.count(Outcome::Shown);
     }
 
-    /// Makes the expansion of a tuple, and publishes it if there is room for it. Its final weight is the answer.
+    /// Makes the expansion of a tuple, and publishes it if there is room for it. Its final weight is the answer. It is seldom called.
+    #[cold]
     fn make(&self, caller: &mut Caller, t: &Tuple) -> Result<Option<u64>, AllocError>
         requires rest { IsAtRest self.now caller.old }
         requires known { IsKnown (cascades_in self.now) t.now }
