@@ -3,6 +3,7 @@ use Rattle.std.proofs.Common.{◌≡◌, ◌∙◌, ℕ, zero, suc, List, [], �
 use Rattle.fst_core.proofs.Searches.{contains_at, contains_from}
 use Rattle.least_path.specs.Starting.{IsStart, StartsAt, StopsAfter, WritesBytes}
 use Rattle.place_words.specs.declared.view.Entry.{Entry}
+use Rattle.place_words.specs.Seats.{number_of, view_of}
 use Rattle.place_words.specs.declared.view.View.{View}
 use Rattle.shared_cascade.specs.Callers.{cascades_in, log_of, places_in}
 use Rattle.shared_cascade.specs.Episodes.{Episodes}
@@ -20,7 +21,7 @@ use Rattle.state_tuples.specs.declared.tuples.Tuple.{Tuple}
 use Rattle.weighted_relations.specs.Machines.{Reads}
 use Rattle.weighted_relations.specs.Relations.{Cascade, IsUnmarked, Relation}
 use Rattle.normaliser.specs.Cascades.{Begins, relation_at}
-use Rattle.normaliser.specs.Searches.{Did, GaveUp, Searched, Stopped}
+use Rattle.normaliser.specs.Searches.{Did, GaveUp, KeepsSeat, Searched, Stopped}
 use Rattle.normaliser.specs.declared.faults.LineFault.{LineFault}
 use Rattle.normaliser.specs.declared.faults.LineFault.TheVariants.{NulByte, LongLine, NoPath, NotTokens, TooManyFields, NoWords, Memory}
 
@@ -34,6 +35,19 @@ both_counted : (os ps : List Outcome) (t : Tally) → with_all (os ++ ps) t ≡ 
 both_counted [] ps t = refl
 both_counted (o ∷ os) ps t = both_counted os ps _
 
+-- a seat stays where its view does but for its log
+pub seat_kept : (c d : Caller) (es : List Entry) → view_of d.seat ≡ record (view_of c.seat) { log = log_of c ++ es } → KeepsSeat c d
+seat_kept c d es view = record {
+  seats = ap (λ (v : View Grammars). v.seats) view;
+  number = sym d.seat.single.0 ∙ ap (λ (v : View Grammars). v.from) view ∙ c.seat.single.0;
+}
+
+pub seat_same : (c d : Caller) → d.seat ≡ c.seat → KeepsSeat c d
+seat_same c d same = record { seats = ap (λ x. (view_of x).seats) same; number = ap number_of same }
+
+pub seat_still : (c m d : Caller) → KeepsSeat c m → KeepsSeat m d → KeepsSeat c d
+seat_still c m d f g = record { seats = g.seats ∙ f.seats; number = g.number ∙ f.number }
+
 module _ (s : Shared) where
   pub searched_none : (c : Caller) → Searched s c c
   searched_none c = record {
@@ -42,6 +56,7 @@ module _ (s : Shared) where
     episodes = refl;
     log = sym (append-nil (log_of c));
     tally = refl;
+    seat = record { seats = refl; number = refl };
   }
 
   pub searched_more : (c m d : Caller) → Searched s c m → Searched s m d → Searched s c d
@@ -51,6 +66,7 @@ module _ (s : Shared) where
     episodes = both (cascades_in s) (places_in s) f.outcomes g.outcomes f.entries g.entries f.episodes g.episodes;
     log = g.log ∙ (ap (λ l. l ++ g.entries) f.log ∙ append_assoc (log_of c) f.entries g.entries);
     tally = g.tally ∙ (ap (with_all g.outcomes) f.tally ∙ sym (both_counted f.outcomes g.outcomes c.tally));
+    seat = seat_still c m d f.seat g.seat;
   }
 
   pub stopped_after : (c m d : Caller) → Searched s c m → Stopped s m d → Stopped s c d
@@ -78,10 +94,25 @@ module _ (s : Shared) where
   did_after T U c m d f (NoWords n) g = searched_more c m d f g
   did_after T U c m d f Memory g = stopped_after c m d f g
 
+  stopped_seat : (c d : Caller) → Stopped s c d → KeepsSeat c d
+  stopped_seat c d (inl h) = h.seat
+  stopped_seat c d (inr (middle, h, up)) = seat_still c middle d h.seat (seat_kept middle d up.1.1 up.1.3)
+
+  -- whatever was answered, the caller has its seat
+  pub did_seat : {T : Type 0} (c d : Caller) (r : Result T LineFault) → Did s c d r → KeepsSeat c d
+  did_seat c d (Ok x) h = h.seat
+  did_seat c d (Err (NulByte at)) h = h.seat
+  did_seat c d (Err LongLine) h = h.seat
+  did_seat c d (Err NoPath) h = h.seat
+  did_seat c d (Err (NotTokens n)) h = h.seat
+  did_seat c d (Err (TooManyFields n)) h = h.seat
+  did_seat c d (Err (NoWords n)) h = h.seat
+  did_seat c d (Err Memory) h = stopped_seat c d h
+
 -- what a hand did, its caller did
 
 pub hand_searched : (x y : Hand) → GoesOn x y → Searched x.shared.now x.caller.now y.caller.now
-hand_searched x y on = record { outcomes = on.outcomes; entries = on.entries; episodes = on.episodes; log = ap (λ (v : View Grammars). v.log) on.view; tally = on.tally }
+hand_searched x y on = record { outcomes = on.outcomes; entries = on.entries; episodes = on.episodes; log = ap (λ (v : View Grammars). v.log) on.view; tally = on.tally; seat = seat_kept x.caller.now y.caller.now on.entries on.view }
 
 pub hand_stopped : (x y : Hand) → StopsAfter GoesOn GivesUp x y → Stopped x.shared.now x.caller.now y.caller.now
 hand_stopped x y (inl on) = inl (hand_searched x y on)

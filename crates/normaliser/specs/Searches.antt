@@ -1,7 +1,7 @@
 -- What comes into the log of a caller's seat while a line is spoken.
 use Rattle.std.specs.Prelude.{◌≡◌, ◌⊎◌, ◌≤◌, ◌+◌, ℕ, List, ◌++◌, Result, Ok, Err, length}
 use Rattle.place_words.specs.declared.view.Entry.{Entry}
-use Rattle.shared_cascade.specs.Callers.{Adds, IsNew, IsReady, cascades_in, log_of, looks_of, places_in}
+use Rattle.shared_cascade.specs.Callers.{Adds, IsNew, IsReady, cascades_in, log_of, looks_of, number_in, places_in, seats_of}
 use Rattle.shared_cascade.specs.Episodes.{Episode, Episodes, Missed}
 use Rattle.shared_cascade.specs.Tallies.{with_all}
 use Rattle.shared_cascade.specs.declared.callers.Caller.{Caller}
@@ -26,6 +26,11 @@ IsNewCallerOf n c = IsNew n.shared c
 abbrev pub places_of : Normaliser → ℕ
 places_of n = places_in n.shared
 
+-- it has the same number, and as many seats were opened with its own
+pub record KeepsSeat (c d : Caller) : Type 0 where
+  pub seats : seats_of d ≡ seats_of c
+  pub number : number_in d ≡ number_in c
+
 -- The caller c has become d: episodes are all that came into its log, and what they came to was counted.
 pub record Searched (s : Shared) (c d : Caller) : Type 0 where
   pub outcomes : List Outcome
@@ -33,6 +38,7 @@ pub record Searched (s : Shared) (c d : Caller) : Type 0 where
   pub episodes : Episodes (cascades_in s) (places_in s) outcomes entries
   pub log : log_of d ≡ log_of c ++ entries
   pub tally : d.tally ≡ with_all outcomes c.tally
+  pub seat : KeepsSeat c d
 
 -- one episode came into its log, or a look alone that found nothing, and was counted
 abbrev pub GaveUp : Shared → Caller → Caller → Type 0

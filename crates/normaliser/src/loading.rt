@@ -1,6 +1,6 @@
 //! From the rules of two cascades to a normaliser.
 
-ghost use Rattle.std.specs.Prelude.{◌≡◌, ◌≤◌, ◌+◌, ◌*◌, ◌++◌, All, IfErr, IfOk, OnOk, length, map, vec_len};
+ghost use Rattle.std.specs.Prelude.{◌≡◌, ◌≤◌, ◌+◌, ◌*◌, ◌++◌, ℕ, All, IfErr, IfOk, OnOk, Some, length, map, slice_get, vec_len};
 ghost use Rattle.weighted_relations.specs.Expressions.{Rel};
 ghost use Rattle.weighted_relations.specs.Machines.{Reads};
 ghost use Rattle.weighted_relations.specs.Relations.{Cascade as CascadeOf, IsUnmarked, Nothing, Same};
@@ -10,6 +10,8 @@ ghost use Rattle.grammar_build.specs.Empties.{RewritesEmptyText};
 ghost use Rattle.normaliser.specs.Loads.{CanBeBuilt, IsLoadFault, NoneRewritesEmpty, classifier_of, verbaliser_of};
 ghost use Rattle.normaliser.specs.Parts.{AllReadAs, IsEmptyRule, IsFaultAfter};
 ghost use Rattle.normaliser.specs.Searches.{IsNewCallerOf, places_of};
+ghost use Rattle.shared_cascade.specs.Callers.{number_in, seats_of};
+ghost use Rattle.shared_cascade.specs.declared.callers.Caller.{Caller};
 
 use crate::faults::LoadFault;
 use crate::normalisers::Normaliser;
@@ -45,6 +47,8 @@ pub fn load(
     ensures places { IfOk result (λ n. places_of n.0 ≡ places) }
     ensures seats { IfOk result (λ n. vec_len n.1 ≡ seats) }
     ensures callers { IfOk result (λ n. All (IsNewCallerOf n.0) n.1.items) }
+    ensures all_seats { IfOk result (λ n. All (λ c. seats_of c ≡ seats) n.1.items) }
+    ensures numbers { IfOk result (λ n. (k : ℕ) (c : Caller) → slice_get n.1.items k ≡ Some c → number_in c ≡ k) }
 {
     let classifying = build_all(alloc, classifier, 0)?;
     let verbalising = build_all(alloc, verbaliser, classifier.len())?;
@@ -95,6 +99,8 @@ fn over_table(
     ensures places { IfOk result (λ n. places_of n.0 ≡ places) }
     ensures seats { IfOk result (λ n. vec_len n.1 ≡ seats) }
     ensures callers { IfOk result (λ n. All (IsNewCallerOf n.0) n.1.items) }
+    ensures all_seats { IfOk result (λ n. All (λ c. seats_of c ≡ seats) n.1.items) }
+    ensures numbers { IfOk result (λ n. (k : ℕ) (c : Caller) → slice_get n.1.items k ≡ Some c → number_in c ≡ k) }
 {
     let first = classifier.start();
     let second = verbaliser.start();

@@ -1,20 +1,24 @@
 -- From one batch to many: what the callers of a run have done.
 use Rattle.std.proofs.Common.{◌≡◌, ◌≤◌, ◌+◌, ◌*◌, ◌∙◌, ℕ, All, List, [], ◌++◌, Some, slice_get, Bool, true, length, sym, ap, subst, append-nil, arith}
-use Rattle.std.proofs.lemmas.List.Elements.{All-get_or}
+use Rattle.std.proofs.lemmas.List.Elements.{All-get_or, All-nil}
 use Rattle.std.proofs.lemmas.Option.{get_or_from_slice_get, slice_get_within}
 use Rattle.std.specs.declared.option.Option.{Option}
-use Rattle.shared_cascade.specs.Callers.{log_of}
+use Rattle.shared_cascade.specs.Callers.{log_of, number_in, seats_of}
 use Rattle.shared_cascade.specs.Sweeps.{AreRounds, done_in, was_in}
 use Rattle.shared_cascade.specs.declared.callers.Caller.{Caller}
 use Rattle.normaliser.specs.Searches.{IsNewCallerOf, places_of}
 use Rattle.normaliser.specs.Lines.{Saying}
 use Rattle.normaliser.specs.declared.normalisers.Normaliser.{Normaliser}
 use Rattle.shared_cascade.specs.declared.tallies.Tally.{Tally}
-use Rattle.speak_core.specs.Crews.{HasRun, RunsAll, RunsOn}
+use Rattle.speak_core.specs.Crews.{AreSeated, HasRun, RunsAll, RunsOn}
 use Rattle.speak_core.specs.Parts.{SpeaksBy}
 use Rattle.speak_core.specs.Reports.{batches_of, swept_sum}
 use Rattle.speak_core.specs.declared.crews.Crew.{Crew}
 use Rattle.speak_core.proofs.Said.{speaks_none_by, tallied_count}
+
+-- callers that were opened together
+pub seated_new : (seats : ℕ) (callers : List Caller) → All (λ c. seats_of c ≡ seats) callers → ((k : ℕ) (c : Caller) → slice_get callers k ≡ Some c → number_in c ≡ k) → AreSeated seats callers
+seated_new seats callers all numbers k c at = (numbers k c at, subst (λ (d : Caller). seats_of d ≡ seats) (get_or_from_slice_get callers k c c at) (All-get_or (λ (d : Caller). seats_of d ≡ seats) callers k c (slice_get_within callers k c at) all))
 
 module _ (n : Normaliser) where
   is_new : (crew : Crew) → All (IsNewCallerOf n) crew.callers.items → (j : ℕ) (c : Caller) → slice_get crew.callers.items j ≡ Some c → log_of c ≡ []
@@ -24,6 +28,7 @@ module _ (n : Normaliser) where
   pub new_run : (crew : Crew) → All (IsNewCallerOf n) crew.callers.items → swept_sum crew.swept ≡ 0 → HasRun n crew [] 0
   new_run crew new none = record {
     workers = λ j c within at. is_new crew new j c at;
+    places = λ j c within at one. All-nil _;
     sweeper = λ c at. (
       subst (λ k. AreRounds (places_of n) k (log_of c)) (let z : 0 ≡ crew.settings.sweep * 0 = omega arith in z) (is_new crew new crew.settings.jobs c at),
       (let z : crew.swept.done ≡ 0 = omega (arith, none) in z) ∙ ap done_in (sym (is_new crew new crew.settings.jobs c at)),

@@ -3,19 +3,19 @@ use Rattle.std.proofs.Common.{◌≡◌, ◌<◌, ◌≤◌, ◌==◌, ℕ, ◌+
 use Rattle.std.proofs.lemmas.Nat.{mod_below}
 use Rattle.std.proofs.lemmas.Bool.{cases_eq, cases_lt, le-ltb, lt-ltb, eq-eqb, ne_eqb}
 use Rattle.std.proofs.lemmas.List.{get_or_default, nil_from_length, drop_all, drop_more, get_or-map, get_or_append_left, get_or_push, get_or-set_other, get_or-set_same, length-map, length-set, take_more, length-take-le}
-use Rattle.std.proofs.lemmas.List.Elements.{All-from_get_or, All-from_recursion, All-get_or}
+use Rattle.std.proofs.lemmas.List.Elements.{All-append, All-from_get_or, All-from_recursion, All-get_or}
 use Rattle.std.proofs.lemmas.Option.{get_or_from_slice_get, slice_get-get_or, slice_get_within}
 use Rattle.std.specs.List.{AllZip}
 use Rattle.std.specs.declared.alloc.Global.{Global}
 use Rattle.std.specs.declared.collections.VecDeque.{VecDeque}
 use Rattle.normaliser.specs.Lines.{Saying}
-use Rattle.normaliser.specs.Searches.{IsCallerOf, places_of}
-use Rattle.shared_cascade.specs.Callers.{cascades_in, log_of}
+use Rattle.normaliser.specs.Searches.{IsCallerOf, KeepsSeat, places_of}
+use Rattle.shared_cascade.specs.Callers.{cascades_in, log_of, number_in, seats_of}
 use Rattle.shared_cascade.specs.Sweeps.{AreRounds}
 use Rattle.speak_core.specs.Logs.{AreTallies, Grows, GrowsBySweep}
 use Rattle.speak_core.proofs.Logging.{swept_on, tallies_append}
 use Rattle.normaliser.specs.declared.normalisers.Normaliser.{Normaliser}
-use Rattle.speak_core.specs.Crews.{AllHear, AreShares, BeginsWith, CanWork, Hears, HearsFront, HearsMore, IsCrewOf, IsShare, RunsOn, Takes, Worked, dealt, lines_of_share, rounds_of, seats_for}
+use Rattle.speak_core.specs.Crews.{AllHear, AreSeated, AreShares, BeginsWith, CanWork, Hears, HearsFront, HearsMore, IsCrewOf, IsShare, RunsOn, Takes, Worked, dealt, lines_of_share, rounds_of, seats_for}
 use Rattle.speak_core.specs.Parts.{AnswersFront, answer_of, lines_of, says_of, tally_of}
 use Rattle.speak_core.specs.Answers.{AllSaid}
 use Rattle.speak_core.specs.Reports.{AllTallied, swept_sum}
@@ -28,6 +28,7 @@ use Rattle.speak_core.specs.declared.shares.Done.{Done}
 use Rattle.speak_core.specs.declared.shares.Share.{Share}
 use Rattle.speak_core.specs.declared.speakers.Speaker.{Speaker}
 use Rattle.shared_cascade.specs.declared.callers.Caller.{Caller}
+use Rattle.shared_cascade.specs.declared.tallies.Tally.{Tally}
 
 -- some lines are dealt, and then those after them
 module _ {X : Type 0} (jobs worker : ℕ) where
@@ -276,6 +277,12 @@ last_rounds jobs sweep some = elim (cases_eq sweep 0) [
       )
 ]
 
+-- the caller of a share is the one that was handed
+handed_at : (shares : List Share) (callers : List Caller) → map (λ (x : Share). x.caller) shares ≡ callers → (j : ℕ) (x : Share) → j < length shares → slice_index_or shares j x ≡ x → slice_get callers j ≡ Some x.caller
+handed_at shares callers handed j x within is =
+    subst (λ l. slice_get l j ≡ Some x.caller) handed
+    (slice_get-get_or (map (λ (y : Share). y.caller) shares) j x.caller (subst (λ k. j < k) (sym (length-map shares (λ (y : Share). y.caller))) within) ∙ ap (λ q. Some q) (get_or-map (λ (y : Share). y.caller) shares j x x.caller within ∙ ap (λ (y : Share). y.caller) is))
+
 -- each worker did its share
 abbrev pub AllWorked : Speaker → List Share → List Done → Type 0
 AllWorked s shares done = (i : ℕ) (d : Done) → i < length shares → (share : Share) × ((e : Share) → slice_index_or shares i e ≡ share) × Worked s share (slice_index_or done i d)
@@ -308,11 +315,27 @@ module _ (s : Speaker) (shares : List Share) (all : List Done) (same : length al
           let hand : lines_of_share w.0 ≡ dealt jobs worker (first - 1) batch = rw (one.number, one.of, one.all, one.from) refl in
           subst (λ h. HearsFront (says_of s) h queue.items) hand (subst (λ (q : VecDeque Heard Global). HearsFront (says_of s) (lines_of_share w.0) q.items) found w.2.heard)
 
+  -- each caller has the seat that it had
+  pub seats_back : (callers : List Caller) (seats : ℕ) → map (λ (x : Share). x.caller) shares ≡ callers → AreSeated seats callers → AreSeated seats (map (λ (d : Done). d.caller) all)
+  seats_back callers seats handed seated j c at = go all refl (subst (λ k. j < k) (length-map all (λ (d : Done). d.caller)) (slice_get_within (map (λ (d : Done). d.caller) all) j c at))
+    where
+      go : (l : List Done) → l ≡ all → j < length all → (number_in c ≡ j) × (seats_of c ≡ seats)
+      go [] is inside = let none : 0 ≡ length all = ap length is in absurd (omega (arith, inside, none))
+      go (x ∷ l) is inside =
+          let within : j < length shares = subst (λ k. j < k) same inside in
+          let w = worked j x within in
+          let caller : (get_or all j x).caller ≡ c = sym (get_or-map (λ (d : Done). d.caller) all j x c inside) ∙ get_or_from_slice_get (map (λ (d : Done). d.caller) all) j c c at in
+          let was = handed_at shares callers handed j w.0 within (w.1 w.0) in
+          let kept : KeepsSeat w.0.caller c = subst (KeepsSeat w.0.caller) caller w.2.seat in
+          let before = seated j w.0.caller was in
+          (kept.number ∙ before.0, kept.seats ∙ before.1)
+
   -- and the crew is whole again
-  pub crew_back : (old new : Crew) → IsCrewOf s.normaliser old → length shares ≡ length old.callers.items → new.settings ≡ old.settings → new.callers.items ≡ map (λ (d : Done). d.caller) all → IsCrewOf s.normaliser new
-  crew_back old new ready count still is = record {
+  pub crew_back : (old new : Crew) → IsCrewOf s.normaliser old → map (λ (x : Share). x.caller) shares ≡ old.callers.items → length shares ≡ length old.callers.items → new.settings ≡ old.settings → new.callers.items ≡ map (λ (d : Done). d.caller) all → IsCrewOf s.normaliser new
+  crew_back old new ready handed count still is = record {
     callers = subst (All (IsCallerOf s.normaliser)) (sym is) workers_ready;
     count = ap length is ∙ length-map all (λ (d : Done). d.caller) ∙ same ∙ count ∙ ready.count ∙ ap (λ (t : Settings). seats_for t.jobs t.sweep) (sym still);
+    seated = subst (λ (t : Settings). AreSeated (seats_for t.jobs t.sweep) new.callers.items) (sym still) (subst (AreSeated (seats_for old.settings.jobs old.settings.sweep)) (sym is) (seats_back old.callers.items (seats_for old.settings.jobs old.settings.sweep) handed ready.seated));
     bounds = subst AreInBounds (sym still) ready.bounds;
     places = ready.places ∙ ap (λ (t : Settings). t.places) (sym still);
   }
@@ -373,6 +396,7 @@ module _ (s : Speaker) (shares : List Share) (all : List Done) (same : length al
   record Did (j : ℕ) (c : Caller) : Type 0 where
     was : Caller
     there : slice_get old.callers.items j ≡ Some was
+    kept : KeepsSeat was c
     middle : Caller
     grew : Grows s.normaliser was middle (dealt old.settings.jobs j (first - 1) (map tally_of heard))
     found : Swept
@@ -401,10 +425,10 @@ module _ (s : Speaker) (shares : List Share) (all : List Done) (same : length al
           let no_rest : taken.0 ≡ [] = nil_from_length taken.0 (omega (arith, counts, parts, zipped, width)) in
           let full : length done.heard.items ≡ length (lines_of_share w.0) = omega (arith, counts, parts, zipped, width) in
           let own : done.heard.items ≡ dealt jobs j (first - 1) heard = taken.1 ∙ ap (λ r. dealt jobs j (first - 1) heard ++ r) no_rest ∙ append-nil (dealt jobs j (first - 1) heard) in
-          let was : slice_get (map (λ (share : Share). share.caller) shares) j ≡ Some w.0.caller = slice_get-get_or (map (λ (share : Share). share.caller) shares) j w.0.caller (subst (λ k. j < k) (sym (length-map shares (λ (share : Share). share.caller))) within) ∙ ap (λ q. Some q) (get_or-map (λ (share : Share). share.caller) shares j w.0 w.0.caller within ∙ ap (λ (share : Share). share.caller) (w.1 w.0)) in
           record {
             was = w.0.caller;
-            there = subst (λ l. slice_get l j ≡ Some w.0.caller) callers was;
+            there = handed_at shares old.callers.items callers j w.0 within (w.1 w.0);
+            kept = subst (KeepsSeat w.0.caller) caller w.2.seat;
             middle = w.2.middle;
             grew = subst (Grows s.normaliser w.0.caller w.2.middle) (ap (map tally_of) own ∙ dealt-map tally_of jobs j (first - 1) heard) (w.2.grew full);
             found = done.swept;
@@ -424,6 +448,9 @@ module _ (s : Speaker) (shares : List Share) (all : List Done) (same : length al
       go true e = absurd (omega (arith, e, inside))
       go false e = omega (arith, e)
 
+  parts : (before : List Tally) → length before ≡ first - 1 → (j : ℕ) → dealt old.settings.jobs j 0 (before ++ map tally_of heard) ≡ dealt old.settings.jobs j 0 before ++ dealt old.settings.jobs j (first - 1) (map tally_of heard)
+  parts before placed j = dealt-append old.settings.jobs j 0 before (map tally_of heard) ∙ ap (λ k. dealt old.settings.jobs j 0 before ++ dealt old.settings.jobs j k (map tally_of heard)) (let z : 0 + length before ≡ first - 1 = omega (arith, placed) in z)
+
   pub crew_ran : (new : Crew) (w : Swept) → new.settings ≡ old.settings → new.callers.items ≡ map (λ (d : Done). d.caller) all → ((d : Done) → 0 < length all → w ≡ (slice_index_or all (length all - 1) d).swept) → new.swept.done ≡ old.swept.done + w.done → new.swept.was ≡ old.swept.was + w.was
       → RunsOn s.normaliser old new first (map tally_of heard)
   crew_ran new w still is last done was before batches placed run = record {
@@ -433,11 +460,15 @@ module _ (s : Speaker) (shares : List Share) (all : List Done) (same : length al
         let idle : rounds_of j old.settings.jobs old.settings.sweep ≡ 0 = rw (lt-ltb j old.settings.jobs less-so) refl in
         let none : d.swept.entries ≡ [] = subst (λ k. AreRounds (places_of s.normaliser) k d.swept.entries) idle d.swept.rounds in
         let log : log_of c ≡ log_of d.was ++ d.grew.entries = d.swept.log ∙ ap (λ l. log_of d.middle ++ l) none ∙ append-nil (log_of d.middle) ∙ d.grew.log in
-        let parts : dealt old.settings.jobs j 0 (before ++ map tally_of heard) ≡ dealt old.settings.jobs j 0 before ++ dealt old.settings.jobs j (first - 1) (map tally_of heard) =
-        dealt-append old.settings.jobs j 0 before (map tally_of heard) ∙ ap (λ k. dealt old.settings.jobs j 0 before ++ dealt old.settings.jobs j k (map tally_of heard)) (let z : 0 + length before ≡ first - 1 = omega (arith, placed) in z) in
         subst (λ (t : Settings). AreTallies (cascades_in s.normaliser.shared) (places_of s.normaliser) (dealt t.jobs j 0 (before ++ map tally_of heard)) (log_of c)) (sym still)
-        (subst (λ ts. AreTallies (cascades_in s.normaliser.shared) (places_of s.normaliser) ts (log_of c)) (sym parts) (subst (AreTallies (cascades_in s.normaliser.shared) (places_of s.normaliser) _) (sym log)
+        (subst (λ ts. AreTallies (cascades_in s.normaliser.shared) (places_of s.normaliser) ts (log_of c)) (sym (parts before placed j)) (subst (AreTallies (cascades_in s.normaliser.shared) (places_of s.normaliser) _) (sym log)
         (tallies_append (cascades_in s.normaliser.shared) (places_of s.normaliser) (dealt old.settings.jobs j 0 before) (dealt old.settings.jobs j (first - 1) (map tally_of heard)) (log_of d.was) d.grew.entries (run.workers j d.was less-so d.there) d.grew.parts)));
+    places = λ j c less at one.
+        let less-so : j < old.settings.jobs = subst (λ (t : Settings). j < t.jobs) still less in
+        let d = did j c (subst (λ l. slice_get l j ≡ Some c) is at) in
+        let lone : seats_of d.was ≡ 1 = sym d.kept.seats ∙ one in
+        subst (λ (t : Settings). All (λ (u : Tally). u.no_place ≡ 0) (dealt t.jobs j 0 (before ++ map tally_of heard))) (sym still)
+        (subst (All (λ (u : Tally). u.no_place ≡ 0)) (sym (parts before placed j)) (All-append (λ (u : Tally). u.no_place ≡ 0) (dealt old.settings.jobs j 0 before) (dealt old.settings.jobs j (first - 1) (map tally_of heard)) (run.places j d.was less-so d.there lone) (d.grew.places lone)));
     sweeper = λ c at.
         let jobs = old.settings.jobs in
         let there : slice_get (map (λ (d : Done). d.caller) all) jobs ≡ Some c = subst (λ (t : Settings). slice_get (map (λ (d : Done). d.caller) all) t.jobs ≡ Some c) still (subst (λ l. slice_get l new.settings.jobs ≡ Some c) is at) in

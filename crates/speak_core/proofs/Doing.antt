@@ -46,7 +46,7 @@ said_nothing P Q (a ∷ answers) h = absurd h
 
 -- callers that are left of lines that say the same
 leaves_alike : (P Q : Saying) → ((line : List ℕ) (a : Answer) → P line a → Q line a) → (n : Normaliser) (s : Settings) (lines : List (List ℕ)) (callers : List Caller) (err err' : Option (List ℕ)) → Leaves P n s lines callers err err' → Leaves Q n s lines callers err err'
-leaves_alike P Q f n s lines callers err err' h = record { ready = h.ready; count = h.count; places = h.places; answers = h.answers; said = all_said_to P Q f lines h.answers h.said; tallies = h.tallies; tallied = h.tallied; swept = h.swept; told = h.told; run = h.run }
+leaves_alike P Q f n s lines callers err err' h = record { ready = h.ready; count = h.count; places = h.places; answers = h.answers; said = all_said_to P Q f lines h.answers h.said; tallies = h.tallies; tallied = h.tallied; swept = h.swept; told = h.told; run = h.run; seated = h.seated; alone = h.alone }
 
 pub input_speaks : (setup : List ℕ) (plan : Plan) (w : Work) → InputBy plan w → Does (speak setup) plan w
 input_speaks setup plan (Input s) h = record {

@@ -1,6 +1,9 @@
 -- From the files of the rules to what is asked for.
-use Rattle.std.proofs.Common.{◌≡◌, ℕ, List, [], ◌++◌, None, Some, Ok, Err, Vec, Global, Result, Option, inl, inr, IfSome, IfOk, IfErr, OnOk, slice_get, refl, sym, ap, ◌∙◌, subst, arith}
+use Rattle.std.proofs.Common.{◌≡◌, ◌<◌, ◌≤◌, ◌+◌, ℕ, List, [], ◌++◌, length, length-append, map, None, Some, Ok, Err, Vec, Global, Result, Option, inl, inr, IfSome, IfOk, IfErr, OnOk, slice_get, refl, sym, ap, ◌∙◌, subst, arith}
 use Rattle.std.proofs.lemmas.Bool.{cases_lt}
+use Rattle.std.proofs.lemmas.List.{length-map}
+use Rattle.std.proofs.lemmas.Option.{slice_get_within}
+use Rattle.core_expressions.specs.Views.{expression_of}
 use Rattle.std.specs.Prelude.{MatchResult}
 use Rattle.std.specs.declared.alloc.AllocError.{AllocError}
 use Rattle.norm_base.specs.Files.{Files, file_of}
@@ -209,6 +212,15 @@ pub tells_empty : (names : List (List ℕ)) (es : List Expression) (n : ℕ) (ru
     → IsFirstEmpty es n → slice_get names n ≡ Some rule → TellsFirstEmpty names es s
 tells_empty names es n rule (Ok v) s is items first there = subst (TellsFirstEmpty names es) (sym is) (n, rule, first, there, items)
 tells_empty names es n rule (Err e) s is items first there = subst (TellsFirstEmpty names es) (sym is) tt
+
+-- the number of the first such rule is one of the rules
+pub rule_within : (a b : List Expr) (most n : ℕ) → IsFirstEmpty (map expression_of a ++ map expression_of b) n → length a + length b ≤ most → n < most
+rule_within a b most n first few =
+    let inside = slice_get_within (map expression_of a ++ map expression_of b) n first.expression first.there in
+    let all = length-append (map expression_of a) (map expression_of b) in
+    let left = length-map a expression_of in
+    let right = length-map b expression_of in
+    omega (arith, inside, all, left, right, few)
 
 -- the setup
 

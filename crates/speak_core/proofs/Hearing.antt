@@ -1,15 +1,16 @@
 -- From what a line call did to a caller to the part of its log that is counted.
 use Rattle.std.proofs.Common.{◌≡◌, ◌≢◌, ◌≤◌, ◌+◌, ◌∙◌, ◌++◌, ℕ, List, Ok, Err, Result, true, false, length, ap, sym, subst, arith}
 use Rattle.weighted_relations.specs.Relations.{IsInput, Relation}
+use Rattle.normaliser.proofs.Searchings.{did_seat, seat_same, seat_still}
 use Rattle.normaliser.proofs.Looking.{classified_input, searched_looks, words_input}
 use Rattle.normaliser.specs.Lines.{Answer, IsSaid, IsSearched, Saying}
 use Rattle.normaliser.specs.Loads.{classifier_of, verbaliser_of}
-use Rattle.normaliser.specs.Searches.{Did, HadMemory, IsCallerOf, LooksThrough, LooksWhereRead, Searched}
+use Rattle.normaliser.specs.Searches.{Did, HadMemory, IsCallerOf, KeepsSeat, LooksThrough, LooksWhereRead, Searched}
 use Rattle.normaliser.specs.declared.faults.LineFault.{LineFault}
 use Rattle.normaliser.specs.declared.faults.LineFault.TheVariants.{NulByte, LongLine, NoPath, NotTokens, TooManyFields, NoWords, Memory}
 use Rattle.normaliser.specs.declared.normalisers.Normaliser.{Normaliser}
 use Rattle.normaliser.specs.declared.normalisers.Spoken.{Spoken}
-use Rattle.shared_cascade.specs.Callers.{IsReady, log_of}
+use Rattle.shared_cascade.specs.Callers.{IsReady, log_of, seats_of}
 use Rattle.shared_cascade.specs.Tallies.{no_tally, with_all}
 use Rattle.shared_cascade.specs.declared.callers.Caller.{Caller}
 use Rattle.shared_cascade.specs.declared.shared.Shared.{Shared}
@@ -41,10 +42,13 @@ heard_said P line (Err (TooManyFields n)) other h = h
 heard_said P line (Err (NoWords n)) other h = h
 heard_said P line (Err Memory) other h = absurd (let both : true ≡ false = other in cc)
 
+pub said_seat : (n : Normaliser) (c began said : Caller) (r : Result Spoken LineFault) → began.seat ≡ c.seat → Did n.shared began said r → KeepsSeat c said
+said_seat n c began said r same did = seat_still c began said (seat_same c began same) (did_seat n.shared began said r did)
+
 -- the tally of a caller was taken (from c to began), a line was said (to said), and the tally was taken again (to d)
 pub heard_part : (n : Normaliser) (line : List ℕ) (c began said d : Caller) (r : Result Spoken LineFault) (t : Tally) → log_of began ≡ log_of c → began.tally ≡ no_tally → is_short r ≡ false → Did n.shared began said r
-    → ((IsSearched line → ⊥) → said ≡ began) → t ≡ said.tally → log_of d ≡ log_of said → IsPart n line c d t
-heard_part n line c began said d r t same anew other did kept is after =
+    → ((IsSearched line → ⊥) → said ≡ began) → t ≡ said.tally → log_of d ≡ log_of said → (seats_of c ≡ 1 → t.no_place ≡ 0) → IsPart n line c d t
+heard_part n line c began said d r t same anew other did kept is after places =
     let s = searched n.shared began said r other did in
     record {
       outcomes = s.outcomes;
@@ -53,7 +57,12 @@ heard_part n line c began said d r t same anew other did kept is after =
       log = after ∙ s.log ∙ ap (λ l. l ++ s.entries) same;
       counted = is ∙ s.tally ∙ ap (with_all s.outcomes) anew;
       unsearched = λ h. (let e = kept h in (is ∙ ap (λ (x : Caller). x.tally) e ∙ anew, after ∙ ap log_of e ∙ same));
+      places = places;
     }
+
+-- and through all of it the caller kept its seat
+pub heard_seat : (n : Normaliser) (c began said d : Caller) (r : Result Spoken LineFault) → began.seat ≡ c.seat → Did n.shared began said r → d.seat ≡ said.seat → KeepsSeat c d
+heard_seat n c began said d r same did after = seat_still c said d (said_seat n c began said r same did) (seat_same said d after)
 
 -- so a tally that begins with them counts at least these
 looks_told : (s : Shared) (c d : Caller) (line : List ℕ) (t : Tally) → IsReady s c → c.tally ≡ no_tally → Searched s c d → LooksThrough s c d line → t ≡ d.tally → IsSearched line → length line + 1 ≤ t.looks

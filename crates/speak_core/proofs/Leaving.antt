@@ -9,11 +9,12 @@ use Rattle.shared_cascade.specs.declared.tallies.Tally.{Tally}
 use Rattle.sample_lines.specs.Summary.{Totals}
 use Rattle.speak_words.specs.declared.asked.Settings.{Settings}
 use Rattle.speak_core.specs.Answers.{AllSaid, told}
-use Rattle.speak_core.specs.Crews.{HasRun, HaveRun, IsCrewOf, seats_for}
+use Rattle.speak_core.specs.Crews.{AreSeated, HasRun, HaveRun, IsCrewOf, seats_for}
 use Rattle.speak_core.specs.Left.{Leaves}
 use Rattle.speak_core.specs.Parts.{SpeaksBy, SumsUpBy}
-use Rattle.speak_core.specs.Reports.{AllTallied, batches_of, end_text, if_wanted, reporting_of, swept_sum, with_tallies}
+use Rattle.speak_core.specs.Reports.{AllTallied, TellsAlone, batches_of, end_text, if_wanted, reporting_of, swept_sum, with_tallies}
 use Rattle.speak_core.specs.declared.crews.Crew.{Crew}
+use Rattle.speak_core.proofs.Lone.{tells_alone}
 use Rattle.speak_core.proofs.Said.{told_by}
 
 module _ (P : Saying) (n : Normaliser) (s : Settings) (crew : Crew) (still : crew.settings ≡ s) (ready : IsCrewOf n crew) (all : List (List ℕ)) (v : Bool) (wanted : v ≡ (reporting_of s).wanted) (u t : Tally) (none : u ≡ no_tally) (err emid err' : Option (List ℕ)) (count : ℕ) (counted : count ≡ length all) (sums : swept_sum crew.swept ≡ (reporting_of s).beside * batches_of (length all)) (last : Appends emid err' (if_wanted (reporting_of s).wanted (end_text (reporting_of s).beside count t crew.swept))) where
@@ -21,6 +22,7 @@ module _ (P : Saying) (n : Normaliser) (s : Settings) (crew : Crew) (still : cre
   leaves answers said tallies tallied faults total run = record {
     ready = ready.callers;
     count = ready.count ∙ ap (λ (x : Settings). seats_for x.jobs x.sweep) still;
+    seated = subst (λ (x : Settings). AreSeated (seats_for x.jobs x.sweep) crew.callers.items) still ready.seated;
     places = ready.places ∙ ap (λ (x : Settings). x.places) still;
     answers = answers;
     said = said;
@@ -29,6 +31,7 @@ module _ (P : Saying) (n : Normaliser) (s : Settings) (crew : Crew) (still : cre
     swept = crew.swept;
     told = told_by P (reporting_of s) t all answers said tallies tallied (total ∙ ap (λ x. with_tallies x tallies) none) err emid err' (subst (λ b. Appends err emid (told b 1 answers tallies)) wanted faults) count counted crew.swept sums last;
     run = subst (λ x. HaveRun n x crew.callers.items crew.swept tallies (batches_of (length all))) still run;
+    alone = subst (λ (x : Settings). x.jobs ≡ 1 → x.sweep ≡ 0 → TellsAlone tallies) still (tells_alone n crew.settings crew.callers.items crew.swept tallies (batches_of (length all)) ready.count ready.seated run);
   }
 
   -- after the lines of an input

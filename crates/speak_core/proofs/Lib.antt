@@ -10,6 +10,7 @@ pub mod Found
 pub mod Hearing
 pub mod Logging
 pub mod Batching
+pub mod Lone
 pub mod Leaving
 pub mod RuleLines
 pub mod Doing

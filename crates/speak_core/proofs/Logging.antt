@@ -1,5 +1,6 @@
 -- How the logs of callers grow.
 use Rattle.std.proofs.Common.{◌≡◌, ◌+◌, ◌∙◌, ℕ, List, [], ◌∷◌, ◌++◌, refl, sym, ap, subst, append_assoc, append-nil, arith}
+use Rattle.std.proofs.lemmas.List.Elements.{All-append, All-cons, All-nil}
 use Rattle.place_words.specs.declared.view.Entry.{Entry}
 use Rattle.state_tuples.specs.Cascades.{Cascaded}
 use Rattle.shared_cascade.specs.Callers.{cascades_in, log_of}
@@ -8,7 +9,7 @@ use Rattle.shared_cascade.specs.Sweeps.{AreRounds, SweptBy, done_in, nothing_swe
 use Rattle.shared_cascade.specs.declared.callers.Caller.{Caller}
 use Rattle.shared_cascade.specs.declared.sweeping.Swept.{Swept}
 use Rattle.shared_cascade.specs.declared.tallies.Tally.{Tally}
-use Rattle.normaliser.specs.Searches.{places_of}
+use Rattle.normaliser.specs.Searches.{KeepsSeat, places_of}
 use Rattle.normaliser.specs.declared.normalisers.Normaliser.{Normaliser}
 use Rattle.speak_core.specs.Logs.{AreTallies, Grows, GrowsBySweep}
 use Rattle.speak_core.specs.Parts.{IsPart}
@@ -20,18 +21,19 @@ module _ (cs : List Cascaded) (n : ℕ) where
 
 module _ (n : Normaliser) where
   pub grows_none : (c d : Caller) → log_of d ≡ log_of c → Grows n c d []
-  grows_none c d same = record { entries = []; parts = refl; log = same ∙ sym (append-nil (log_of c)) }
+  grows_none c d same = record { entries = []; parts = refl; log = same ∙ sym (append-nil (log_of c)); places = λ one. All-nil _ }
 
-  pub grows_more : (c d e : Caller) (ts us : List Tally) → Grows n c d ts → Grows n d e us → Grows n c e (ts ++ us)
-  grows_more c d e ts us f g = record {
+  pub grows_more : (c d e : Caller) (ts us : List Tally) → KeepsSeat c d → Grows n c d ts → Grows n d e us → Grows n c e (ts ++ us)
+  grows_more c d e ts us seat f g = record {
     entries = f.entries ++ g.entries;
     parts = tallies_append (cascades_in n.shared) (places_of n) ts us f.entries g.entries f.parts g.parts;
     log = g.log ∙ ap (λ l. l ++ g.entries) f.log ∙ append_assoc (log_of c) f.entries g.entries;
+    places = λ one. All-append (λ (t : Tally). t.no_place ≡ 0) ts us (f.places one) (g.places (seat.seats ∙ one));
   }
 
   -- a line that was answered
   pub grows_part : (line : List ℕ) (c d : Caller) (t : Tally) → IsPart n line c d t → Grows n c d (t ∷ [])
-  grows_part line c d t p = record { entries = p.entries; parts = (p.outcomes, p.entries, [], p.episodes, p.counted, refl, sym (append-nil p.entries)); log = p.log }
+  grows_part line c d t p = record { entries = p.entries; parts = (p.outcomes, p.entries, [], p.episodes, p.counted, refl, sym (append-nil p.entries)); log = p.log; places = λ one. All-cons (λ (t : Tally). t.no_place ≡ 0) t [] (p.places one) (All-nil _) }
 
   pub grows_swept : (c d : Caller) (count : ℕ) (es : List Entry) (w : Swept) → AreRounds (places_of n) count es → SweptBy n.shared c d es nothing_swept w → GrowsBySweep n c d count w
   grows_swept c d count es w rounds by = record {

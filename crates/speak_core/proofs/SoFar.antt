@@ -248,9 +248,6 @@ module _ (P : Saying) (w : Bool) (s : Settings) (v : Swept) (t t' : Tally) (star
             go None k = tt
             go (Some input) k = subst Q (sym k) h
 
-        pub last_speaks : IfSome start (λ input. Speaks P w 1 t t'' (lines input) out out' err err' both_read)
-        last_speaks = of_whole (λ l. Speaks P w 1 t t'' l out out' err err' both_read) spoken_both
-
         last_number : m ≡ length (lines sofar.handled ++ lines text)
         last_number = let a = length-append (lines sofar.handled) (lines text) in let b = sofar.counted in let c = sofar.whole.number in omega (arith, counts, a, b, c)
 

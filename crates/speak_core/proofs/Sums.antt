@@ -154,13 +154,6 @@ module _ (P : Saying) where
     pub far : SummedTo w t t' start done state now err err' e e'
     pub run : HasRun N c far.sums.tallies (batches_of done)
 
-  pub summed_none : (w : Bool) (t : Tally) (start : ℕ) (now : Totals) (err : Option (List ℕ)) (e : ℕ) → now ≡ totals_of [] → SummedTo w t t start 0 start now err err e e
-  summed_none w t start now err e is = record {
-    sums = subst (λ l. SumsUp P w 1 t t l (totals_of []) now err err) (sym (sampled-none start)) (sums_none w 1 t (totals_of []) now err is);
-    goes_on = sym (state-none start);
-    kept = refl;
-  }
-
   pub summed_none_by : (N : Normaliser) (c : Crew) → HasRun N c [] 0 → (w : Bool) (t : Tally) (start : ℕ) (now : Totals) (err : Option (List ℕ)) (e : ℕ) → now ≡ totals_of [] → SummedBy N c w t t start 0 start now err err e e
   summed_none_by N c run w t start now err e is =
       let x = subst (λ l. SumsUpBy (λ ts. HasRun N c ts 0) P w 1 t t l (totals_of []) now err err) (sym (sampled-none start)) (sums_none_by (λ ts. HasRun N c ts 0) run w 1 t (totals_of []) now err is) in
@@ -232,9 +225,6 @@ module _ (P : Saying) where
     -- at the end all lines are summed up
     pub summed_all_by : (N : Normaliser) (c : Crew) → HasRun N c sofar.sums.tallies (batches_of done) → (count : ℕ) → done ≡ count → SumsUpBy (λ ts. HasRun N c ts (batches_of count)) P w 1 t t' (sample_lines count start) (totals_of []) now err emid
     summed_all_by N c run count end = subst (λ k. SumsUpBy (λ ts. HasRun N c ts (batches_of k)) P w 1 t t' (sampled k start).value (totals_of []) now err emid) end (sofar.sums, run)
-
-    pub summed_all : (count : ℕ) → done ≡ count → SumsUp P w 1 t t' (sample_lines count start) (totals_of []) now err emid
-    summed_all count end = subst (λ k. SumsUp P w 1 t t' (sampled k start).value (totals_of []) now err emid) end sofar.sums
 
   -- where the total is cut off, a front of all is told
   pub summed_until : (w : Reporting) (t : Tally) (all : List (List ℕ)) (old now : Totals) (err emid err' : Option (List ℕ)) → SumsUp P w.wanted 1 no_tally t all old now err emid → SaysOnce P → (n : ℕ) → n ≡ length all → (swept : Swept) → swept_sum swept ≡ w.beside * batches_of (length all)

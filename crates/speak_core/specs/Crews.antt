@@ -4,14 +4,14 @@ use Rattle.std.specs.List.{AllZip}
 use Rattle.std.specs.declared.alloc.Global.{Global}
 use Rattle.std.specs.declared.collections.VecDeque.{VecDeque}
 use Rattle.normaliser.specs.Lines.{Saying}
-use Rattle.normaliser.specs.Searches.{IsCallerOf, places_of}
+use Rattle.normaliser.specs.Searches.{IsCallerOf, KeepsSeat, places_of}
 use Rattle.normaliser.specs.declared.normalisers.Normaliser.{Normaliser}
 use Rattle.speak_core.specs.Parts.{answer_of, lines_of, says_of, tally_of}
-use Rattle.shared_cascade.specs.Callers.{cascades_in, log_of}
+use Rattle.shared_cascade.specs.Callers.{cascades_in, log_of, number_in, seats_of}
 use Rattle.shared_cascade.specs.Sweeps.{AreRounds, done_in, was_in}
 use Rattle.shared_cascade.specs.declared.callers.Caller.{Caller}
 use Rattle.shared_cascade.specs.declared.tallies.Tally.{Tally}
-use Rattle.speak_core.specs.Logs.{AreTallies, Grows, GrowsBySweep}
+use Rattle.speak_core.specs.Logs.{AreTallies, FindsPlaces, Grows, GrowsBySweep}
 use Rattle.speak_core.specs.Reports.{IsTallyOf, batches_of, swept_sum}
 use Rattle.shared_cascade.specs.declared.sweeping.Swept.{Swept}
 use Rattle.speak_words.specs.Asked.{AreInBounds}
@@ -26,6 +26,10 @@ use Rattle.speak_core.specs.declared.speakers.Speaker.{Speaker}
 abbrev pub seats_for : ℕ → ℕ → ℕ
 seats_for jobs sweep = if sweep == 0 then jobs else jobs + 1
 
+-- each caller has the seat of the number that is its place, and so many were opened together
+abbrev pub AreSeated : ℕ → List Caller → Type 0
+AreSeated seats callers = (k : ℕ) (c : Caller) → slice_get callers k ≡ Some c → (number_in c ≡ k) × (seats_of c ≡ seats)
+
 -- The lines of a worker, from 0, of so many: those whose number less one leaves it over. So many lines come before the first.
 abbrev pub dealt : {X : Type 0} → ℕ → ℕ → ℕ → List X → List X
 dealt jobs worker before [] = []
@@ -39,6 +43,7 @@ BeginsWith front all = (rest : List _) × (all ≡ front ++ rest)
 pub record IsCrewOf (n : Normaliser) (crew : Crew) : Type 0 where
   pub callers : All (IsCallerOf n) crew.callers.items
   pub count : length crew.callers.items ≡ seats_for crew.settings.jobs crew.settings.sweep
+  pub seated : AreSeated (seats_for crew.settings.jobs crew.settings.sweep) crew.callers.items
   pub bounds : AreInBounds crew.settings
   pub places : places_of n ≡ crew.settings.places
 
@@ -110,6 +115,7 @@ pub record CanWork (n : Normaliser) (share : Share) : Type 0 where
 -- and what it gives back
 pub record Worked (s : Speaker) (share : Share) (done : Done) : Type 0 where
   pub ready : IsCallerOf s.normaliser done.caller
+  pub seat : KeepsSeat share.caller done.caller
   pub heard : HearsFront (says_of s) (lines_of_share share) done.heard.items
   pub swept : swept_sum done.swept ≡ places_of s.normaliser * share.rounds
   pub middle : Caller
@@ -120,6 +126,7 @@ pub record Worked (s : Speaker) (share : Share) (done : Done) : Type 0 where
 -- its own lines and nothing else, and that of the sweeper the rounds of each batch.
 pub record HaveRun (n : Normaliser) (s : Settings) (callers : List Caller) (swept : Swept) (tallies : List Tally) (batches : ℕ) : Type 0 where
   pub workers : (j : ℕ) (c : Caller) → j < s.jobs → slice_get callers j ≡ Some c → AreTallies (cascades_in n.shared) (places_of n) (dealt s.jobs j 0 tallies) (log_of c)
+  pub places : (j : ℕ) (c : Caller) → j < s.jobs → slice_get callers j ≡ Some c → FindsPlaces c (dealt s.jobs j 0 tallies)
   pub sweeper : (c : Caller) → slice_get callers s.jobs ≡ Some c → AreRounds (places_of n) (s.sweep * batches) (log_of c) × (swept.done ≡ done_in (log_of c)) × (swept.was ≡ was_in (log_of c))
 
 abbrev pub HasRun : Normaliser → Crew → List Tally → ℕ → Type 0

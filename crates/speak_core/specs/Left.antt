@@ -18,9 +18,9 @@ use Rattle.shared_cascade.specs.declared.sweeping.Swept.{Swept}
 use Rattle.shared_cascade.specs.declared.tallies.Tally.{Tally}
 use Rattle.speak_words.specs.declared.asked.Settings.{Settings}
 use Rattle.speak_core.specs.Answers.{AllSaid, told_all}
-use Rattle.speak_core.specs.Crews.{HaveRun, seats_for}
+use Rattle.speak_core.specs.Crews.{AreSeated, HaveRun, seats_for}
 use Rattle.speak_core.specs.Plans.{Plan, saying_of}
-use Rattle.speak_core.specs.Reports.{AllTallied, batches_of, reporting_of}
+use Rattle.speak_core.specs.Reports.{AllTallied, TellsAlone, batches_of, reporting_of}
 
 -- the two cascades of a normaliser have the relations of a plan's rules
 pub record IsOfPlan (n : Normaliser) (plan : Plan) : Type 0 where
@@ -28,10 +28,11 @@ pub record IsOfPlan (n : Normaliser) (plan : Plan) : Type 0 where
   pub verbaliser : Same (verbaliser_of n) (Cascade Rel plan.verbaliser)
 
 -- After lines that say this: the callers were opened together, a seat for each worker and one for the sweeper where there are rounds to sweep, and
--- are ready. What was told of the lines has the numbers that the callers' logs tell of.
+-- are ready. What was told of the lines has the numbers that the callers' logs tell of, and with one job and no sweep what one caller alone tells.
 pub record Leaves (says : Saying) (n : Normaliser) (s : Settings) (lines : List (List ℕ)) (callers : List Caller) (err err' : Option (List ℕ)) : Type 0 where
   pub ready : All (IsCallerOf n) callers
   pub count : length callers ≡ seats_for s.jobs s.sweep
+  pub seated : AreSeated (seats_for s.jobs s.sweep) callers
   pub places : places_of n ≡ s.places
   pub answers : List Answer
   pub said : AllSaid says lines answers
@@ -40,6 +41,7 @@ pub record Leaves (says : Saying) (n : Normaliser) (s : Settings) (lines : List 
   pub swept : Swept
   pub told : Appends err err' (told_all (reporting_of s) answers tallies swept)
   pub run : HaveRun n s callers swept tallies (batches_of (length lines))
+  pub alone : s.jobs ≡ 1 → s.sweep ≡ 0 → TellsAlone tallies
 
 -- whether lines are handled
 abbrev pub handles_lines : Job → Bool

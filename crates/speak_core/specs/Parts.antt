@@ -6,7 +6,7 @@ use Rattle.normaliser.specs.Lines.{Answer, IsSearched, Saying}
 use Rattle.normaliser.specs.Searches.{places_of}
 use Rattle.normaliser.specs.declared.normalisers.Normaliser.{Normaliser}
 use Rattle.place_words.specs.declared.view.Entry.{Entry}
-use Rattle.shared_cascade.specs.Callers.{cascades_in, log_of}
+use Rattle.shared_cascade.specs.Callers.{cascades_in, log_of, seats_of}
 use Rattle.shared_cascade.specs.Episodes.{Episodes}
 use Rattle.shared_cascade.specs.Tallies.{no_tally, with_all}
 use Rattle.shared_cascade.specs.declared.callers.Caller.{Caller}
@@ -85,6 +85,7 @@ pub record IsPart (n : Normaliser) (line : List ℕ) (c d : Caller) (t : Tally) 
   pub log : log_of d ≡ log_of c ++ entries
   pub counted : t ≡ with_all outcomes no_tally
   pub unsearched : (IsSearched line → ⊥) → (t ≡ no_tally) × (log_of d ≡ log_of c)
+  pub places : seats_of c ≡ 1 → t.no_place ≡ 0
 
 -- The first of some lines were answered, or all.
 pub record AnswersFront (says : Saying) (all : List (List ℕ)) (answers : List Answer) (tallies : List Tally) (is_whole : Bool) : Type 0 where

@@ -1,5 +1,5 @@
 -- What is reported of the looks for expansions that lines made: of each line, and in total.
-use Rattle.std.specs.Prelude.{◌≡◌, ◌≢◌, ◌==◌, ◌≤◌, ℕ, ◌+◌, ◌-◌, ◌*◌, ◌/◌, ◌^◌, List, [], ◌∷◌, ◌++◌, Bool, Err, true, false, codes, length, min, if◌then◌else◌}
+use Rattle.std.specs.Prelude.{All, ◌≡◌, ◌≢◌, ◌==◌, ◌≤◌, ◌<◌, ℕ, ◌+◌, ◌-◌, ◌*◌, ◌/◌, ◌^◌, List, [], ◌∷◌, ◌++◌, Bool, Err, true, false, codes, length, min, if◌then◌else◌}
 use Rattle.std.specs.Fmt.{decimal}
 use Rattle.normaliser.specs.Lines.{Answer, IsSearched}
 use Rattle.normaliser.specs.declared.faults.LineFault.TheVariants.{NoPath}
@@ -41,6 +41,13 @@ with_tally t u = record {
 abbrev pub with_tallies : Tally → List Tally → Tally
 with_tallies t [] = t
 with_tallies t (u ∷ us) = with_tallies (with_tally t u) us
+
+-- What a report of one caller alone tells: each expansion that has room in a place finds one, and so in the total. The table is empty at first, so the
+-- first line that looks has a look that finds nothing.
+pub record TellsAlone (tallies : List Tally) : Type 0 where
+  pub no_place : All (λ t. t.no_place ≡ 0) tallies
+  pub total : (with_tallies no_tally tallies).no_place ≡ 0
+  pub first : (before after : List Tally) (t : Tally) → tallies ≡ before ++ t ∷ after → All (λ u. u.looks ≡ 0) before → 0 < t.looks → 0 < t.absent
 
 -- the six numbers by twos, and a line feed
 abbrev pub shown_text : Tally → List ℕ

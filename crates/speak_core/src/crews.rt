@@ -1,6 +1,6 @@
 // The callers of a run.
 
-ghost use Rattle.std.specs.Prelude.{◌≡◌, ◌==◌, ◌≤◌, ◌<◌, ◌+◌, ◌-◌, ◌*◌, ◌%◌, ◌^◌, [], IfOk, OnOk, length, map, slice_index_or, true};
+ghost use Rattle.std.specs.Prelude.{◌≡◌, ◌≤◌, ◌<◌, ◌+◌, ◌-◌, ◌*◌, ◌^◌, [], IfOk, OnOk, length, map, slice_index_or, true};
 ghost use Rattle.speak_core.specs.Crews.{AreShares, CanWork, IsCrewOf, RunsOn, SweptOn, Worked, rounds_of, seats_for};
 ghost use Rattle.speak_core.specs.Reports.{swept_sum};
 ghost use Rattle.speak_words.specs.Asked.{AreInBounds};
@@ -51,15 +51,6 @@ pub(crate) fn seats_for(jobs: u32, sweep: u32) -> u32
     ensures { result ≡ seats_for jobs sweep }
 {
     if sweep == 0 { jobs } else { jobs + 1 }
-}
-
-/// Whether the line of this number, from 1, is the worker's, from 0.
-pub(crate) fn is_turn(number: u64, worker: u32, jobs: u32) -> bool
-    requires number { 1 ≤ number }
-    requires jobs { 1 ≤ jobs }
-    ensures { result ≡ (number - 1) % jobs == worker }
-{
-    (number - 1) % u64::from(jobs) == u64::from(worker)
 }
 
 /// What the lines of a batch say, in order. Its workers answer them side by side, and the sweeper sweeps beside them. Where this is want of

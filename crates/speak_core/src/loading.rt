@@ -7,7 +7,7 @@ ghost use Rattle.speak_setup.specs.Setups.{HasNames, HasVerbalizer, IsNamed, mos
 ghost use Rattle.thrax_link.specs.Exports.{exports_of};
 ghost use Rattle.speak_core.specs.Accepted.{RequestAsks, NamesAsk, PlanOf, RulesOf, VerbaliserOf, all_rules, need_of};
 ghost use Rattle.speak_words.specs.Asked.{AreInBounds};
-ghost use Rattle.speak_core.specs.Crews.{seats_for};
+ghost use Rattle.speak_core.specs.Crews.{AreSeated, seats_for};
 ghost use Rattle.speak_core.specs.Requests.{request_of};
 ghost use Rattle.speak_core.specs.Loaded.{Builds, CanLoad, Checks, Finds, FindsGrammar, FindsSetup, FindsPlanned, ChecksBy, IsLoadedBy, SpeaksBy, expressions_of, plan_of};
 ghost use Rattle.speak_core.specs.Stops.{Counts, IsRuleStop, IsReadStop};
@@ -280,6 +280,7 @@ fn loaded(mode: Mode, normaliser: Normaliser, callers: Vec<Caller>, settings: Se
     requires settings { AreInBounds settings }
     requires count { length callers.items ≡ seats_for settings.jobs settings.sweep }
     requires new { All (IsNewCallerOf normaliser) callers.items }
+    requires seated { AreSeated (seats_for settings.jobs settings.sweep) callers.items }
     requires places { places_of normaliser ≡ settings.places }
     ensures speaker { result.speaker ≡ record { normaliser = normaliser; mode = mode } }
     ensures ready { IsLoadedBy settings result }

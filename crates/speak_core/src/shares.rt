@@ -1,14 +1,13 @@
 // What each worker does of a batch.
 
-ghost use Rattle.std.specs.Prelude.{◌≡◌, ◌∷◌, ◌++◌, ◌<◌, ◌≤◌, ◌+◌, ◌-◌, ◌%◌, ◌^◌, List, [], OnErr, OnOk, length, map};
-ghost use Rattle.normaliser.specs.Searches.{IsCallerOf};
+ghost use Rattle.std.specs.Prelude.{◌≡◌, ◌==◌, ◌∷◌, ◌++◌, ◌<◌, ◌≤◌, ◌+◌, ◌-◌, ◌%◌, ◌^◌, List, [], OnErr, OnOk, length, map};
+ghost use Rattle.normaliser.specs.Searches.{IsCallerOf, KeepsSeat};
 ghost use Rattle.speak_core.specs.Crews.{CanWork, HearsFront, HearsMore, Worked, dealt, lines_of_share};
 ghost use Rattle.speak_core.specs.Logs.{Grows};
 ghost use Rattle.speak_core.specs.Parts.{says_of, tally_of};
 ghost use Rattle.shared_cascade.specs.declared.tallies.Tally.{Tally};
 
 use crate::batches::Heard;
-use crate::crews::is_turn;
 use crate::speakers::Speaker;
 use crate::watch::Watch;
 use normaliser::{Caller, Room, Swept};
@@ -68,6 +67,7 @@ fn answer_share<W: Watch>(
     requires jobs { 1 ≤ share.old.jobs }
     requires worker { share.old.worker ≤ 63 }
     ensures ready { IsCallerOf speaker.now.normaliser share.new.caller }
+    ensures seat { KeepsSeat share.old.caller share.new.caller }
     ensures heard { HearsFront (says_of speaker.now) (lines_of_share share.old) result.items }
     ensures log { length result.items ≡ length (lines_of_share share.old) → Grows speaker.now.normaliser share.old.caller share.new.caller (map tally_of result.items) }
 {
@@ -83,6 +83,15 @@ fn answer_share<W: Watch>(
         number += 1;
     }
     heard
+}
+
+/// Whether the line of this number, from 1, is the worker's, from 0.
+fn is_turn(number: u64, worker: u32, jobs: u32) -> bool
+    requires number { 1 ≤ number }
+    requires jobs { 1 ≤ jobs }
+    ensures { result ≡ (number - 1) % jobs == worker }
+{
+    (number - 1) % u64::from(jobs) == u64::from(worker)
 }
 
 /// Answers the line of this number where it is the worker's turn, but for want of memory.
@@ -101,6 +110,7 @@ fn answer_one<W: Watch>(
     requires jobs { 1 ≤ share.old.jobs }
     requires worker { share.old.worker ≤ 63 }
     ensures ready { IsCallerOf speaker.now.normaliser share.new.caller }
+    ensures seat { KeepsSeat share.old.caller share.new.caller }
     ensures heard { OnOk result (HearsMore (says_of speaker.now) (dealt share.old.jobs share.old.worker (number - 1) (line.now ∷ [])) heard.old.items heard.new.items) }
     ensures none { OnErr result (heard.new.items ≡ heard.old.items) }
     ensures turn { OnErr result ((number - 1) % share.old.jobs ≡ share.old.worker) }

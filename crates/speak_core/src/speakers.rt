@@ -2,7 +2,7 @@
 
 ghost use Rattle.std.specs.Prelude.{◌≡◌, ◌≢◌, ◌≤◌, ◌+◌, IfOk, length};
 ghost use Rattle.normaliser.specs.Lines.{IsSaid, IsSearched};
-ghost use Rattle.normaliser.specs.Searches.{Did, IsCallerOf, LooksWhereRead};
+ghost use Rattle.normaliser.specs.Searches.{Did, IsCallerOf, KeepsSeat, LooksWhereRead};
 ghost use Rattle.normaliser.specs.declared.faults.LineFault.TheVariants.{NoPath};
 ghost use Rattle.speak_core.specs.Parts.{IsPart, answer_of, is_short, says_of};
 
@@ -40,6 +40,7 @@ impl Speaker {
         ensures part { IfOk result (λ h. IsPart self.now.normaliser line.now caller.old caller.new h.tally) }
         ensures looked { IfOk result (λ h. IsSearched line.now → answer_of h ≢ Err NoPath → length line.now + 1 ≤ h.tally.looks) }
         ensures ready { IsCallerOf self.now.normaliser caller.new }
+        ensures seat { KeepsSeat caller.old caller.new }
     {
         let _others = caller.take_tally();
         let answer = self.say(alloc, caller, room, line);

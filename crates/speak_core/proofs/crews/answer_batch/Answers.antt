@@ -25,7 +25,7 @@ returns-clause-ready g c =
     let worked : AllWorked c.args.speaker.now c.in_ok-shares.shares.items c.in_ok-done.done.items = λ i d within. let one = (c.in_ok-done.ensures.each i d within).1 in (one.job, one.job_is, one.call.met) in
     let same : length c.in_ok-done.done.items ≡ length c.in_ok-shares.shares.items = let a = c.in_ok-done.done.ok in let b = c.in_ok-shares.shares.ok in let l = c.in_ok-done.ensures.len in omega (arith, a, b, l) in
     let width = sym (length-map c.in_ok-shares.shares.items (λ (s : Share). s.caller)) ∙ ap length c.in_ok-shares.ensures.callers in
-    crew_back c.args.speaker.now c.in_ok-shares.shares.items c.in_ok-done.done.items same worked c.args.crew.now (record c.take_back.new.crew { swept = c.add_swept.new.swept }) c.requires.ready width (c.take_back.ensures.settings ∙ c.deal.ensures.settings) c.in_ok-queues.ensures.callers
+    crew_back c.args.speaker.now c.in_ok-shares.shares.items c.in_ok-done.done.items same worked c.args.crew.now (record c.take_back.new.crew { swept = c.add_swept.new.swept }) c.requires.ready c.in_ok-shares.ensures.callers width (c.take_back.ensures.settings ∙ c.deal.ensures.settings) c.in_ok-queues.ensures.callers
 
 pub add_swept-requires : goal.add_swept-requires
 add_swept-requires g c =

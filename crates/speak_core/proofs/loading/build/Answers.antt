@@ -1,4 +1,4 @@
-use Rattle.std.proofs.Common.{List, map, ap, subst, sym}
+use Rattle.std.proofs.Common.{List, length, map, ap, subst, sym}
 use Rattle.weighted_relations.specs.Expressions.{Rel}
 use Rattle.weighted_relations.specs.Relations.{Cascade, Same}
 use Rattle.speak_core.specs.declared.speakers.Speaker.{Speaker}
@@ -9,7 +9,9 @@ use Rattle.normaliser.specs.Loads.{classifier_of, verbaliser_of}
 use Rattle.speak_core.specs.Accepted.{all_rules}
 use Rattle.speak_core.specs.Loaded.{plan_of}
 use Rattle.speak_core.specs.Plans.{rules_of}
-use Rattle.speak_core.proofs.Found.{built, tells_empty}
+use Rattle.speak_core.proofs.Found.{built, rule_within, tells_empty}
+use Rattle.speak_core.specs.Crews.{AreSeated}
+use Rattle.speak_core.proofs.Batching.{seated_new}
 use Rattle.speak_core.proofs.loading.build.Goals as goal
 
 pub returns-in-Ok-clause-builds : goal.returns-in-Ok-clause-builds
@@ -21,3 +23,12 @@ pub returns-in-Err-RewritesEmpty-clause-builds : goal.returns-in-Err-RewritesEmp
 returns-in-Err-RewritesEmpty-clause-builds c =
     tells_empty (all_rules (names_of c.args.setup.now)) (rules_of (plan_of c.args.mode (names_of c.args.setup.now) c.args.rules.now)) c.in-Err-RewritesEmpty.rule c.rule_name-name.result.now c.rewrites_empty.result c.refused.result c.refused.ensures c.rewrites_empty.ensures
     (rw (c.in-Err-RewritesEmpty.field-0-is, c.deref.ensures.value, c.deref-2.ensures.value) at c.in-Err-RewritesEmpty.ensures.refused) (rw c.in-Err-RewritesEmpty.field-0-is at c.rule_name-name.ensures)
+
+pub loaded-requires-clause-seated : goal.loaded-requires-clause-seated
+loaded-requires-clause-seated c =
+    subst (λ n. AreSeated n c.in-Ok.callers.items) c.seats_for-seats.ensures (seated_new c.seats_for-seats.result c.in-Ok.callers.items (rw c.in-Ok.callers-is at c.in-Ok.ensures.all_seats) (rw c.in-Ok.callers-is at c.in-Ok.ensures.numbers))
+
+pub rule_name-name-requires : goal.rule_name-name-requires
+rule_name-name-requires c =
+    rw c.in-Err-RewritesEmpty.field-0-is
+    (rule_within c.args.rules.now.classifier.items c.args.rules.now.verbaliser.items (length (all_rules (names_of c.args.setup.now))) c.in-Err-RewritesEmpty.rule (rw (c.in-Err-RewritesEmpty.field-0-is, c.deref.ensures.value, c.deref-2.ensures.value) at c.in-Err-RewritesEmpty.ensures.refused) c.requires.rules.named)

@@ -9,6 +9,7 @@ returns-clause-ready c = record {
   ready = record {
     callers = All-weaker (IsNewCallerOf c.args.normaliser) (IsCallerOf c.args.normaliser) (λ caller new. new.ready) c.args.callers.items c.requires.new;
     count = c.requires.count;
+    seated = c.requires.seated;
     bounds = c.requires.settings;
     places = c.requires.places;
   };

@@ -4,6 +4,7 @@ use Rattle.speak_core.specs.Parts.{says_of, tally_of}
 use Rattle.speak_core.specs.declared.batches.Heard.{Heard}
 use Rattle.speak_core.specs.declared.shares.Share.{Share}
 use Rattle.speak_core.proofs.Dealing.{heard_front, heard_more, unheard}
+use Rattle.normaliser.proofs.Searchings.{seat_same, seat_still}
 use Rattle.speak_core.proofs.Logging.{grows_more, grows_none}
 use Rattle.speak_core.proofs.shares.answer_share.Goals as goal
 
@@ -16,11 +17,12 @@ loop-line-preserved g c =
       omega (arith, counted),
       c.answer_one.ensures.ready,
       c.answer_one.ensures.still ∙ ap (λ (s : Share). record s { caller = c.answer_one.new.share.caller }) still,
-      subst (Grows c.args.speaker.now.normaliser c.args.share.now.caller c.answer_one.new.share.caller) (sym log.1) (grows_more c.args.speaker.now.normaliser c.args.share.now.caller c.loop-line.share.caller c.answer_one.new.share.caller (map tally_of c.loop-line.heard.items) log.0 c.loop-line.invariant.4 log.2),
+      subst (Grows c.args.speaker.now.normaliser c.args.share.now.caller c.answer_one.new.share.caller) (sym log.1) (grows_more c.args.speaker.now.normaliser c.args.share.now.caller c.loop-line.share.caller c.answer_one.new.share.caller (map tally_of c.loop-line.heard.items) log.0 c.loop-line.invariant.5 c.loop-line.invariant.4 log.2),
+      seat_still c.args.share.now.caller c.loop-line.share.caller c.answer_one.new.share.caller c.loop-line.invariant.5 c.answer_one.ensures.seat,
     )
 
 pub loop-line-init : goal.loop-line-init
-loop-line-init g c = (rw c.new-heard.ensures.items tt, omega arith, c.requires.ready, refl, rw c.new-heard.ensures.items (grows_none c.args.speaker.now.normaliser c.args.share.now.caller c.args.share.now.caller refl))
+loop-line-init g c = (rw c.new-heard.ensures.items tt, omega arith, c.requires.ready, refl, rw c.new-heard.ensures.items (grows_none c.args.speaker.now.normaliser c.args.share.now.caller c.args.share.now.caller refl), seat_same c.args.share.now.caller c.args.share.now.caller refl)
 
 pub returns-in_default-clause-log : goal.returns-in_default-clause-log
 returns-in_default-clause-log g c = λ all.
@@ -36,3 +38,6 @@ returns-in_default-clause-heard g c = rw c.in_default.ensures.none (heard_front 
 
 pub returns-clause-heard : goal.returns-clause-heard
 returns-clause-heard g c = heard_front (says_of c.args.speaker.now) c.args.share.now c.loop-line.line-index c.loop-line.heard.items c.loop-line.invariant.0
+
+pub returns-in_default-clause-seat : goal.returns-in_default-clause-seat
+returns-in_default-clause-seat g c = seat_still c.args.share.now.caller c.loop-line.share.caller c.answer_one.new.share.caller c.loop-line.invariant.5 c.answer_one.ensures.seat

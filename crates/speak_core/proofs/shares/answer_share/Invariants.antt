@@ -1,5 +1,5 @@
 use Rattle.std.proofs.Common.{◌≡◌, ◌+◌, map}
-use Rattle.normaliser.specs.Searches.{IsCallerOf}
+use Rattle.normaliser.specs.Searches.{IsCallerOf, KeepsSeat}
 use Rattle.speak_core.specs.Logs.{Grows}
 use Rattle.speak_core.specs.Parts.{says_of, tally_of}
 use Rattle.speak_core.proofs.Dealing.{HeardSoFar}
@@ -12,3 +12,4 @@ invariant-loop-line g l =
     × IsCallerOf l.speaker.normaliser l.share.caller
     × (l.share ≡ record l.initial.share { caller = l.share.caller })
     × Grows l.speaker.normaliser l.initial.share.caller l.share.caller (map tally_of l.heard.items)
+    × KeepsSeat l.initial.share.caller l.share.caller
